@@ -1,0 +1,69 @@
+-- Laws of what is said of all the numbers below n.
+-- Assumes nothing.
+use mathlib.Core.Path.{_≡_, refl, sym, subst, ap, _∙_}
+use mathlib.Core.Bool.{Bool, true, false, _&&_, and-assoc}
+use mathlib.Core.Logic.{⊎-elim}
+use Prim.Native.Nat.{ℕ, zero, suc, _+_, _*_, _<_}
+use native.Mathlib.Nat.{le-of-suc-le-suc, not-suc-le-zero, eq-or-lt-of-le, add-assoc, add-zero, add-suc, mul-zero, mul-suc}
+use native.Mathlib.Numerals.{add-one}
+use native.Mathlib.Omega.{arith}
+use Rattle.books.specs.Numbers.{every, sumTo}
+use Rattle.books.proofs.Booleans.{both-true, left-true, right-true}
+
+module _ (p : ℕ → Bool) where
+  -- one number more
+  pub every-more : (i : ℕ) → every (i + 1) p ≡ (every i p && p i)
+  unfolding every
+  every-more i = rw add-one
+
+  -- the first number apart from the rest
+  pub every-front : (n : ℕ) → every (suc n) p ≡ (p 0 && every n (λ i. p (suc i)))
+  unfolding every
+  every-front zero = one (p 0)
+    where
+      one : (b : Bool) → (true && b) ≡ (b && true)
+      one true = refl
+      one false = refl
+  every-front (suc n) = ap (λ (b : Bool). b && p (suc n)) (every-front n) ∙ and-assoc (p 0) (every n (λ i. p (suc i))) (p (suc n))
+
+  -- a test of every number is a test of each
+  pub every-at : (n i : ℕ) → every n p ≡ true → i < n → p i ≡ true
+  unfolding every
+  every-at zero i e h = absurd (not-suc-le-zero h)
+  every-at (suc n) i e h =
+      ⊎-elim (λ q. subst (λ (k : ℕ). p k ≡ true) (sym q) (right-true (every n p) (p n) e))
+      (λ lt. every-at n i (left-true (every n p) (p n) e) lt) (eq-or-lt-of-le (le-of-suc-le-suc h))
+
+  pub every-all : (n : ℕ) → ((i : ℕ) → i < n → p i ≡ true) → every n p ≡ true
+  unfolding every
+  every-all zero f = refl
+  every-all (suc n) f = both-true (every n p) (p n) (every-all n (λ i h. f i (omega arith))) (f n (omega arith))
+
+-- two tests that agree below n
+pub every-ext : (p q : ℕ → Bool) (n : ℕ) → ((i : ℕ) → i < n → p i ≡ q i) → every n p ≡ every n q
+unfolding every
+every-ext p q zero f = refl
+every-ext p q (suc n) f = rw (every-ext p q n (λ i h. f i (omega arith)), f n (omega arith))
+
+-- sums of what agrees below n
+pub sum-ext : (f g : ℕ → ℕ) (n : ℕ) → ((i : ℕ) → i < n → f i ≡ g i) → sumTo n f ≡ sumTo n g
+unfolding sumTo
+sum-ext f g zero h = refl
+sum-ext f g (suc n) h = rw (sum-ext f g n (λ i k. h i (omega arith)), h n (omega arith))
+
+-- the first number apart from the rest
+pub sum-front : (f : ℕ → ℕ) (n : ℕ) → sumTo (suc n) f ≡ f 0 + sumTo n (λ i. f (suc i))
+unfolding sumTo
+sum-front f zero = omega arith
+sum-front f (suc n) = ap (λ (x : ℕ). x + f (suc n)) (sum-front f n) ∙ add-assoc (f 0) (sumTo n (λ i. f (suc i))) (f (suc n))
+
+-- a sum in two parts, and in m rows of n
+pub sum-add : (f : ℕ → ℕ) (m n : ℕ) → sumTo (m + n) f ≡ sumTo m f + sumTo n (λ i. f (m + i))
+unfolding sumTo
+sum-add f m zero = rw (add-zero m) (omega arith)
+sum-add f m (suc n) = rw (add-suc m n, sum-add f m n) (add-assoc (sumTo m f) (sumTo n (λ i. f (m + i))) (f (m + n)))
+
+pub sum-rows : (f : ℕ → ℕ) (m n : ℕ) → sumTo (n * m) f ≡ sumTo m (λ a. sumTo n (λ b. f (n * a + b)))
+unfolding sumTo
+sum-rows f zero n = rw (mul-zero n)
+sum-rows f (suc m) n = rw (mul-suc n m, sum-add f (n * m) n, sum-rows f m n)

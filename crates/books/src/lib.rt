@@ -1,0 +1,1 @@
+// The home's books. Until the code lands nothing here runs: see specs/.

@@ -1,0 +1,1 @@
+// One lane. Until the code lands nothing here runs: see specs/.

@@ -1,0 +1,1 @@
+// Document 004 as definitions. Nothing here runs: see specs/.

@@ -1,0 +1,1 @@
+// The lent store. Until the code lands nothing here runs: see specs/.
