@@ -1,2 +1,3 @@
 pub mod Booleans
 pub mod Numbers
+pub mod Transits

@@ -1,0 +1,55 @@
+-- The counters of the books' code: the signed count that a stored transit stands for, and each counter after an event, or out where
+-- it would leave its range. n is the number of ports.
+-- Assumes nothing.
+use mathlib.Core.Bool.{Bool, cond, _&&_}
+use Prim.Native.Nat.{ℕ, _≤_, _<_}
+use lib.Dec.{ltb}
+use lib.IntN.{ℤ, pos, _+ℤ_, subℕ, natAbs}
+use lib.Signed.{leZ}
+use Rattle.paper.specs.Paper.{Kind, send, receive, create, delete, inTransitAfter, pointersToAfter}
+use Rattle.books.specs.Books.{holdingLimit, transitZero, transitTop}
+use Rattle.books.specs.declared.HoldingStep.{HoldingStep}
+use Rattle.books.specs.declared.HoldingStep.the-variants as HS
+use Rattle.books.specs.declared.TransitStep.{TransitStep}
+use Rattle.books.specs.declared.TransitStep.the-variants as TS
+
+-- a number of ports that the counters' types have room for
+abbrev pub Ports : ℕ → Type 0
+Ports n = (0 < n) × (n ≤ 16)
+
+-- an event of the kind keeps a holding x in range
+abbrev pub holdingFits : Kind → ℕ → Bool
+holdingFits send x = Bool.true
+holdingFits receive x = ltb x holdingLimit
+holdingFits create x = ltb x holdingLimit
+holdingFits delete x = ltb 0 x
+
+-- the holding after an event, by Table 3
+abbrev pub holdingStep : Kind → ℕ → HoldingStep
+holdingStep k x = cond (holdingFits k x) (HS.Now (record { 0 = natAbs (pointersToAfter k (pos x)) })) HS.Out
+
+module _ (n : ℕ) where
+  -- the count that a stored number stands for, and the stored number of a count
+  abbrev pub counted : ℕ → ℤ
+  counted k = subℕ k (transitZero n)
+
+  abbrev pub storedAs : ℤ → ℕ
+  storedAs z = natAbs (z +ℤ pos (transitZero n))
+
+  -- a count in range
+  abbrev pub inRange : ℤ → Bool
+  inRange z = leZ (counted 0) z && leZ z (counted (transitTop n))
+
+  -- an event of the kind keeps a transit, stored as x, in range
+  abbrev pub transitFits : Kind → ℕ → Bool
+  transitFits send x = ltb x (transitTop n)
+  transitFits receive x = ltb 0 x
+  transitFits create x = Bool.true
+  transitFits delete x = Bool.true
+
+  -- the count z, or out of range; the transit after an event, by Table 3
+  abbrev pub within : ℤ → TransitStep
+  within z = cond (inRange z) (TS.Now (record { 0 = z })) TS.Out
+
+  abbrev pub transitStep : Kind → ℤ → TransitStep
+  transitStep k z = within (inTransitAfter k z)
