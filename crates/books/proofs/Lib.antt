@@ -1,3 +1,4 @@
 pub mod Booleans
 pub mod Numbers
 pub mod Transits
+pub mod Rows

@@ -1,24 +1,22 @@
 -- Laws of a transit as a signed count and as the number that is stored: when a count is in range, and what an event does to either.
 -- Assumes nothing.
 use mathlib.Core.Path.{_≡_, refl, sym, ap, subst, _∙_}
-use mathlib.Core.Bool.{Bool, true, false, cond, not, _&&_, and-false, false≢true}
-use Prim.Native.Nat.{ℕ, zero, suc, _+_, _-_, _^_, _<_, _≤_}
+use mathlib.Core.Bool.{Bool, true, false, cond, not, and-false, false≢true}
+use Prim.Native.Nat.{ℕ, zero, suc, _+_, _^_, _<_, _≤_}
 use native.Mathlib.Numerals.{add-one}
 use native.Mathlib.Decide.{decLt}
 use native.Mathlib.Omega.{arith}
 use lib.Dec.{ltb, leb, leb·zero}
-use lib.IntN.{ℤ, pos, negsuc, sucℤ, predℤ, negℤ, natAbs, subℕ, _+ℤ_, _-ℤ_, sucℤ-+ℤ, pred-suc, +ℤ-one, -ℤ-one, -ℤ-+ℤ-cancel}
+use lib.IntN.{ℤ, pos, negsuc, sucℤ, predℤ, negℤ, natAbs, subℕ, _+ℤ_, sucℤ-+ℤ, pred-suc, -ℤ-+ℤ-cancel}
 use lib.Signed.{mag, ltZ, leZ}
-use borrow.Author.Tests.{ltb-true, lt-ltb, le-ltb, leb-true, le-leb, lt-leb}
+use borrow.Author.Tests.{lt-ltb, le-ltb, leb-true, le-leb, lt-leb}
 use mir.Syntax.{w16}
 use mir.Val.{SFits}
 use Rattle.paper.specs.Paper.{send, receive}
-use Rattle.books.specs.declared.Transit.{Transit}
-use Rattle.books.specs.declared.TransitStep.{TransitStep}
 use Rattle.books.specs.declared.TransitStep.the-variants as TS
 use Rattle.books.specs.Books.{transitZero, transitTop}
 use Rattle.books.specs.Counters.{Ports, counted, storedAs, inRange, within, transitFits, transitStep}
-use Rattle.books.proofs.Booleans.{bool-ext, left-true, right-true}
+use Rattle.books.proofs.Booleans.{bool-ext, left-true}
 
 -- at most is not above, of numbers and of signed numbers
 le-not : (a b : ℕ) → leb a b ≡ not (ltb b a)
@@ -40,9 +38,24 @@ mag-cond : (t : Bool) (x y H : ℕ) → x < H → y < H → mag (cond t (negsuc 
 mag-cond true x y H hx hy = hx
 mag-cond false x y H hx hy = hy
 
--- a difference of small numbers fits
-pub fits-sub : (a d : ℕ) → a < 2 ^ 15 → d < 2 ^ 15 → SFits w16 (subℕ a d)
-fits-sub a d h k = record { sfits = mag-cond (ltb a d) (d - suc a) (a - d) (2 ^ 15) (omega arith) (omega arith) }
+-- the number before one above 0
+pub before-pos : (x : ℕ) → 0 < x → natAbs (predℤ (pos x)) ≡ x - 1
+before-pos zero h = absurd (omega arith)
+before-pos (suc x) h = omega arith
+
+-- how far from 0: a difference of small numbers, one up, one down
+mag-sub : (a d H : ℕ) → a < H → d ≤ H → mag (subℕ a d) < H
+mag-sub a d H h k = mag-cond (ltb a d) (d - suc a) (a - d) H (omega arith) (omega arith)
+
+mag-up : (z : ℤ) → mag (sucℤ z) ≤ mag z + 1
+mag-up (pos m) = omega arith
+mag-up (negsuc zero) = omega arith
+mag-up (negsuc (suc m)) = omega arith
+
+mag-down : (z : ℤ) → mag (predℤ z) ≤ mag z + 1
+mag-down (pos zero) = omega arith
+mag-down (pos (suc m)) = omega arith
+mag-down (negsuc m) = omega arith
 
 -- a difference of numbers is the signed difference
 pub sub-pos : (a d : ℕ) → pos a -ℤ pos d ≡ subℕ a d
@@ -90,7 +103,10 @@ pub record Stored (n : ℕ) (z : ℤ) : Type 0 where
   pub is : z ≡ counted n (storedAs n z)
 
 module _ (n : ℕ) where
-  -- the count of a stored number is in range where that number is
+  -- the count of a stored number fits, and is in range where that number is
+  pub fits-counted : (k : ℕ) → Ports n → k ≤ transitTop n → SFits w16 (counted n k)
+  fits-counted k p h = record { sfits = mag-sub k (transitZero n) (2 ^ 15) (omega arith) (omega arith) }
+
   pub range-of : (k : ℕ) → inRange n (counted n k) ≡ leb k (transitTop n)
   range-of k = rw (sub-le (transitZero n) 0 k, sub-le (transitZero n) k (transitTop n), leb·zero k)
 
@@ -101,8 +117,11 @@ module _ (n : ℕ) where
       record { most = leb-true (storedAs n z) (transitTop n) t; is = e }
 
   -- what is stored of the count of k is k
-  pub stored-of : (k : ℕ) → counted n k +ℤ pos (transitZero n) ≡ pos k
-  stored-of k = sub-back (transitZero n) k
+  pub stored-of : (k : ℕ) → storedAs n (counted n k) ≡ k
+  stored-of k = ap natAbs (sub-back (transitZero n) k)
+
+  pub stored-pos : (z : ℤ) → Stored n z → z +ℤ pos (transitZero n) ≡ pos (storedAs n z)
+  stored-pos z s = ap (λ (y : ℤ). y +ℤ pos (transitZero n)) (s .is) ∙ sub-back (transitZero n) (storedAs n z)
 
   -- below the least count, and above the greatest
   pub out-below : (z : ℤ) → ltZ z (counted n 0) ≡ true → within n z ≡ TS.Out
@@ -126,3 +145,15 @@ module _ (n : ℕ) where
 
       least : k ≡ 0 → transitStep n receive (counted n k) ≡ cond (transitFits n receive k) (TS.Now (record { 0 = counted n (k - 1) })) TS.Out
       least e = rw (e, before-less (counted n 0))
+
+  -- a count in range, one up and one down, fits
+  small : (z : ℤ) → Ports n → inRange n z ≡ true → mag z < 2 ^ 15 - 1
+  small z p h =
+      let s = in-store z h in
+      subst (λ (y : ℤ). mag y < 2 ^ 15 - 1) (sym (s .is)) (mag-sub (storedAs n z) (transitZero n) (2 ^ 15 - 1) (omega (arith, s .most)) (omega arith))
+
+  pub fits-sent : (z : ℤ) → Ports n → inRange n z ≡ true → SFits w16 (sucℤ z)
+  fits-sent z p h = record { sfits = omega (arith, small z p h, mag-up z) }
+
+  pub fits-received : (z : ℤ) → Ports n → inRange n z ≡ true → SFits w16 (predℤ z)
+  fits-received z p h = record { sfits = omega (arith, small z p h, mag-down z) }

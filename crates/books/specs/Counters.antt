@@ -1,13 +1,17 @@
 -- The counters of the books' code: the signed count that a stored transit stands for, and each counter after an event, or out where
 -- it would leave its range. n is the number of ports.
 -- Assumes nothing.
-use mathlib.Core.Bool.{Bool, cond, _&&_}
-use Prim.Native.Nat.{ℕ, _≤_, _<_}
+use mathlib.Core.Bool.{Bool, true, cond, _&&_}
+use mathlib.Core.List.{List}
+use Prim.Native.Nat.{ℕ, _+_, _*_, _≤_, _<_}
 use lib.Dec.{ltb}
+use lib.ListN.{length}
 use lib.IntN.{ℤ, pos, _+ℤ_, subℕ, natAbs}
 use lib.Signed.{leZ}
 use Rattle.paper.specs.Paper.{Kind, send, receive, create, delete, inTransitAfter, pointersToAfter}
-use Rattle.books.specs.Books.{holdingLimit, transitZero, transitTop}
+use Rattle.books.specs.Books.{holdingLimit, transitZero, transitTop, transitAt}
+use Rattle.books.specs.declared.Event.{Event}
+use Rattle.books.specs.declared.Event.the-variants as EV
 use Rattle.books.specs.declared.HoldingStep.{HoldingStep}
 use Rattle.books.specs.declared.HoldingStep.the-variants as HS
 use Rattle.books.specs.declared.TransitStep.{TransitStep}
@@ -17,9 +21,22 @@ use Rattle.books.specs.declared.TransitStep.the-variants as TS
 abbrev pub Ports : ℕ → Type 0
 Ports n = (0 < n) × (n ≤ 16)
 
+-- a port's row of transits has o's two bytes, and what they store is in range
+pub record TransitIn (n o : ℕ) (r : List ℕ) : Type 0 where
+  pub ports : Ports n
+  pub place : 2 * o + 1 < length r
+  pub range : transitAt o r ≤ transitTop n
+
+-- the kinds of the code's events
+abbrev pub kindOf : Event → Kind
+kindOf EV.Send = send
+kindOf EV.Receive = receive
+kindOf EV.Create = create
+kindOf EV.Delete = delete
+
 -- an event of the kind keeps a holding x in range
 abbrev pub holdingFits : Kind → ℕ → Bool
-holdingFits send x = Bool.true
+holdingFits send x = true
 holdingFits receive x = ltb x holdingLimit
 holdingFits create x = ltb x holdingLimit
 holdingFits delete x = ltb 0 x
@@ -44,8 +61,8 @@ module _ (n : ℕ) where
   abbrev pub transitFits : Kind → ℕ → Bool
   transitFits send x = ltb x (transitTop n)
   transitFits receive x = ltb 0 x
-  transitFits create x = Bool.true
-  transitFits delete x = Bool.true
+  transitFits create x = true
+  transitFits delete x = true
 
   -- the count z, or out of range; the transit after an event, by Table 3
   abbrev pub within : ℤ → TransitStep

@@ -1,20 +1,19 @@
+-- `books::Holding::lowered` meets its contract.
+-- Assumes nothing.
 use borrow.Author.Needs.{needs}
+use borrow.Author.Tests.{lt-ltb, le-ltb}
+use Rattle.books.proofs.Transits.{before-pos}
 use Rattle.books.proofs.Holding.lowered.Statement.{statement}
 use Rattle.books.proofs.Holding.lowered.Tie as tie
-use Rattle.books.proofs.Holding.lowered.Reads as reads
-use Rattle.books.proofs.Holding.lowered.Lts as lts
 
--- src/lib.rt:45:38
 sub-t5 : tie.Need-sub-t5
 sub-t5 c = search needs
 
--- src/lib.rt:40:5
 returns : tie.Need-returns
-returns c = ?
+returns c = rw (lt-ltb _ _ (c .if1 .taken), before-pos _ (c .if1 .taken))
 
--- src/lib.rt:40:5
 returns-2 : tie.Need-returns-2
-returns-2 c = ?
+returns-2 c = rw (le-ltb _ _ (c .if1 .left))
 
 pub lowered-spec : {M : Type 1} → statement M
 lowered-spec = tie.close (tie.spec sub-t5 returns returns-2)

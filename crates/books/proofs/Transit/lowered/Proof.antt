@@ -1,21 +1,28 @@
+-- `books::Transit::lowered` meets its contract.
+-- Assumes nothing.
+use mathlib.Core.Path.{_≡_, ap, _∙_}
 use borrow.Author.Needs.{needs}
+use lib.IntN.{ℤ, pos, predℤ, -ℤ-one}
+use mir.Syntax.{w16}
+use mir.Val.{toZ, ofZ}
+use mir.ValLaws.{toZ-ofZ}
+use Rattle.books.specs.Counters.{within}
+use Rattle.books.proofs.Transits.{fits-received}
 use Rattle.books.proofs.Transit.lowered.Statement.{statement}
 use Rattle.books.proofs.Transit.lowered.Tie as tie
-use Rattle.books.proofs.Transit.lowered.Reads as reads
-use Rattle.books.proofs.Transit.lowered.Lts as lts
-use Rattle.books.proofs.Transit.within.Reads as within-reads
 
--- src/lib.rt:104:25
+-- one down, as the code has it
+down : (c : tie.After-struct-told) → toZ w16 (ofZ w16 (c .before .args .self .0)) -ℤ pos 1 ≡ predℤ (c .before .args .self .0)
+down c = ap (λ (z : ℤ). z -ℤ pos 1) (toZ-ofZ w16 (c .before .args .self .0) (search needs)) ∙ -ℤ-one (c .before .args .self .0)
+
 sub-within : tie.Need-sub-within
-sub-within c = ?
+sub-within c = rw (down c) (fits-received _ _ (c .before .pre .0) (c .before .pre .1))
 
--- src/lib.rt:104:9
 within-requires : tie.Need-within-requires
 within-requires c κs = search needs
 
--- src/lib.rt:99:5
 returns : tie.Need-returns
-returns c = ?
+returns c = c .within .ensures ∙ ap (within (c .before .before .args .n)) (toZ-ofZ w16 _ (sub-within (c .before)) ∙ down (c .before))
 
 pub lowered-spec : {M : Type 1} → statement M
 lowered-spec = tie.close (tie.spec sub-within within-requires returns)
