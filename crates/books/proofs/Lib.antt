@@ -2,3 +2,4 @@ pub mod Booleans
 pub mod Numbers
 pub mod Transits
 pub mod Rows
+pub mod Parts

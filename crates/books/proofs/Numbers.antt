@@ -6,9 +6,10 @@ use mathlib.Core.Logic.{⊎-elim}
 use Prim.Native.Nat.{ℕ, zero, suc, _+_, _*_, _<_}
 use native.Mathlib.Nat.{le-of-suc-le-suc, not-suc-le-zero, eq-or-lt-of-le, add-assoc, add-zero, add-suc, mul-zero, mul-suc}
 use native.Mathlib.Numerals.{add-one}
+use native.Mathlib.Decide.{ℕ-discrete}
 use native.Mathlib.Omega.{arith}
 use Rattle.books.specs.Numbers.{every, sumTo}
-use Rattle.books.proofs.Booleans.{both-true, left-true, right-true}
+use Rattle.books.proofs.Booleans.{both-true, left-true, right-true, bool-ext}
 
 module _ (p : ℕ → Bool) where
   -- one number more
@@ -67,3 +68,11 @@ pub sum-rows : (f : ℕ → ℕ) (m n : ℕ) → sumTo (n * m) f ≡ sumTo m (λ
 unfolding sumTo
 sum-rows f zero n = rw (mul-zero n)
 sum-rows f (suc m) n = rw (mul-suc n m, sum-add f (n * m) n, sum-rows f m n)
+
+-- a test that holds of every number, changed at one number alone: it holds of every number if it holds of that one
+pub every-but : (p q : ℕ → Bool) (n i : ℕ) → i < n → every n p ≡ true → ((j : ℕ) → j < n → ¬ (j ≡ i) → q j ≡ p j) → every n q ≡ q i
+every-but p q n i h e f = bool-ext (every n q) (q i) (λ t. every-at q n i t h) (λ t. every-all q n (λ j k. go t j k (ℕ-discrete j i)))
+  where
+    go : q i ≡ true → (j : ℕ) → j < n → Dec (j ≡ i) → q j ≡ true
+    go t j k (yes w) = rw w t
+    go t j k (no w) = f j k w ∙ every-at p n j e k
