@@ -1,3 +1,4 @@
 pub mod Sections
 pub mod Frame
 pub mod Formed
+pub mod Places

@@ -1,0 +1,12 @@
+-- `store::stretches::report_count` meets its contract. Assumes nothing.
+use native.Mathlib.Omega.{arith}
+use borrow.Author.Needs.{needs}
+use Rattle.store.proofs.Places.{byte-is}
+use Rattle.store.proofs.stretches.report_count.Statement.{statement}
+use Rattle.store.proofs.stretches.report_count.Tie as tie
+
+returns : tie.Need-returns
+returns c = let a = c .before .before .before .args in byte-is (c .before .reports-place .ensures) (a .store .now) 0 _ (omega arith) (omega arith)
+
+pub report-count-spec : {M : Type 1} → statement M
+report-count-spec = tie.close (tie.spec (λ c κs. search needs) (λ c. search needs) returns)
