@@ -5,11 +5,12 @@ use mathlib.Core.List.{List}
 use Prim.Native.Nat.{ℕ, suc, _+_, _-_, _*_, _<_, _≤_}
 use native.Mathlib.Nat.{mul-suc, mul-le-mul, mul-le-mul-left}
 use native.Mathlib.Omega.{arith}
-use lib.ListN.{getD, take, drop}
-use lib.Seq.{getD-take, getD-drop}
+use lib.ListN.{length, getD, set, take, drop, take-append-drop}
+use lib.Seq.{length-take-le, set-append-left, getD-take, getD-drop}
 use borrow.Rule.Slice.PartMut.{putMid}
+use Rattle.books.specs.Books.{objectLimit}
 use Rattle.lanes.specs.Lane.{entry}
-use Rattle.store.specs.Layout.{Stretch, objects, long, place, read, edit}
+use Rattle.store.specs.Layout.{Stretch, objects, size, long, place, read, edit}
 use Rattle.store.specs.Stretches.{Few, Begins, Numbered}
 use Rattle.store.proofs.Frame.{read-at, read-is, edit-is}
 
@@ -24,6 +25,13 @@ numbered n a b few ha hb = record {
 -- the object bytes begin the store
 pub objects-begin : (n : ℕ) → Begins n objects 0
 objects-begin n = record { at = refl; ends = omega arith }
+
+-- one object byte written
+pub object-set : (n : ℕ) (s : List ℕ) (o b : ℕ) → o < objectLimit → length s ≡ size n → set s o b ≡ edit n objects (λ r. set r o b) s
+unfolding edit read
+object-set n s o b low sized =
+    let fits : o < length (take objectLimit s) = omega (arith, length-take-le objectLimit s (omega arith)) in
+    ap (λ (l : List ℕ). set l o b) (sym (take-append-drop objectLimit s)) ∙ set-append-left (take objectLimit s) (drop objectLimit s) o b fits
 
 module _ {n : ℕ} {c : Stretch} {r : ℕ} (h : Begins n c r) (s : List ℕ) where
   -- one byte of a stretch, and of a lane's oldest entry

@@ -2,7 +2,7 @@
 // it. Its part of the store is lent to the function that knows it.
 ghost use mathlib.Core.Path.{_≡_};
 ghost use Prim.Native.Nat.{_+_, _*_, _≤_, _<_};
-ghost use lib.ListN.{getD};
+ghost use lib.ListN.{getD, set};
 ghost use Rattle.books.specs.Books.{objectLimit};
 ghost use Rattle.lanes.specs.Lane.{pointerWidth, reportWidth, count, entry};
 ghost use Rattle.store.specs.Layout.{objects, held, heard, transit, pointers, reports, read, edit};
@@ -111,4 +111,12 @@ pub fn oldest_report(store: &[u8], n: usize, a: usize, b: usize, i: usize) -> u8
     ensures { λ r. ⌜ r ≡ getD (entry reportWidth 0 (read n (reports a b) (now (store .entry)))) i 0 ⌝ }
 {
     store[reports_place(n, a, b) + 1 + i]
+}
+
+// o's object byte becomes b.
+pub fn set_object(store: &mut [u8], n: usize, o: usize, b: u8)
+    requires { ⌜ Lent n (now store) × (o < objectLimit) ⌝ }
+    ensures { λ _. ⌜ now (store .exit) ≡ edit n objects (λ r. set r o b) (now (store .entry)) ⌝ }
+{
+    store[o] = b;
 }
