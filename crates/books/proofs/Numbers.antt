@@ -76,3 +76,10 @@ every-but p q n i h e f = bool-ext (every n q) (q i) (λ t. every-at q n i t h) 
     go : q i ≡ true → (j : ℕ) → j < n → Dec (j ≡ i) → q j ≡ true
     go t j k (yes w) = rw w t
     go t j k (no w) = f j k w ∙ every-at p n j e k
+
+-- the same of pairs of numbers
+pub every-but-pair : (p q : ℕ → ℕ → Bool) (n a b : ℕ) → a < n → b < n → every n (λ i. every n (p i)) ≡ true
+    → ((i j : ℕ) → (i ≡ a → ¬ (j ≡ b)) → q i j ≡ p i j) → every n (λ i. every n (q i)) ≡ q a b
+every-but-pair p q n a b ha hb e f =
+    every-but (λ i. every n (p i)) (λ i. every n (q i)) n a ha e (λ i h d. every-ext (q i) (p i) n (λ j k. f i j (λ r. absurd (d r))))
+    ∙ every-but (p a) (q a) n b hb (every-at (λ i. every n (p i)) n a e ha) (λ j k d. f a j (λ r. d))

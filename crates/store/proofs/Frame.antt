@@ -110,6 +110,27 @@ module _ (n : ℕ) where
       go d false true p q = read-other c f s sized hc keeps d q p
       go d false false p q = refl
 
+  -- a store whose stretches are v, and so after an edit
+  pub record Viewed (s : List ℕ) (v : Stretch → List ℕ) : Type 0 where
+    pub sized : length s ≡ size n
+    pub seen : view s ≡ v
+
+  pub viewed : (s : List ℕ) → length s ≡ size n → Viewed s (view s)
+  viewed s e = record { sized = e; seen = refl }
+
+  pub read-viewed : (c : Stretch) (s : List ℕ) (v : Stretch → List ℕ) → Viewed s v → inside c ≡ true → read n c s ≡ v c
+  read-viewed c s v k hc = sym (view-in c s hc) ∙ ap (λ (u : Stretch → List ℕ). u c) (k .seen)
+
+  pub edit-viewed : (c : Stretch) (f : List ℕ → List ℕ) (s : List ℕ) (v : Stretch → List ℕ) → Viewed s v → inside c ≡ true → length (f (v c)) ≡ long n c
+      → Viewed (edit n c f s) (upd c (f (v c)) v)
+  edit-viewed c f s v k hc keeps =
+      let r = read-viewed c s v k hc in
+      let q : length (f (read n c s)) ≡ long n c = rw r keeps in
+      record {
+        sized = length-edit c f s (k .sized) hc q;
+        seen = view-edit c f s (k .sized) hc q ∙ rw (r, k .seen);
+      }
+
   -- A stretch as code has it, from its place to e: what is read there, and the store once that part, lent, is back as ys.
   pub read-is : (c : Stretch) (s : List ℕ) (e : ℕ) → e ≡ place n c + long n c → take (e - place n c) (drop (place n c) s) ≡ read n c s
   unfolding read

@@ -2,3 +2,4 @@ pub mod Sections
 pub mod Frame
 pub mod Formed
 pub mod Places
+pub mod Written
