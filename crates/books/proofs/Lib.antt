@@ -3,3 +3,4 @@ pub mod Numbers
 pub mod Transits
 pub mod Rows
 pub mod Parts
+pub mod Effects

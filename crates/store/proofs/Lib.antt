@@ -3,3 +3,4 @@ pub mod Frame
 pub mod Formed
 pub mod Places
 pub mod Written
+pub mod Rows
