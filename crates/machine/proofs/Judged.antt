@@ -4,25 +4,22 @@ use mathlib.Core.Path.{_≡_, refl, sym, ap, _∙_}
 use mathlib.Core.Bool.{Bool, true, false, cond, not, _&&_}
 use mathlib.Core.List.{List, [], _∷_, _++_}
 use Prim.Native.Nat.{ℕ, zero, suc}
-use lib.Dec.{ltb, eqb, eqb·suc-zero}
+use lib.Dec.{eqb, eqb·suc-zero}
 use lib.ListN.{getD}
-use borrow.Author.Tests.{ltb-true, ne-eqb, eqb-false}
+use borrow.Author.Tests.{eqb-false}
 use native.Mathlib.Omega.{arith}
 use Rattle.books.proofs.Booleans.{left-true, right-true}
 use Rattle.store.specs.Store.{wellFormed}
 use Rattle.machine.specs.Acts.{Act, Row, row, table, rowOf}
 use Rattle.machine.specs.Effects.{after}
+use Rattle.machine.proofs.Firsts.{positive, first-last}
 use Rattle.machine.specs.Machine.{firstIn, rule, refusal, outcome, does}
 
 -- the number that an act's own checks give, and where they give none, what 14 gives; b is whether the store after the act is well formed
 abbrev pub judged : ℕ → Bool → ℕ
 judged k b = cond (eqb k 0) (cond b 0 14) k
 
--- every number of a list, and every check of a list of rows, is above 0
-positive : List ℕ → Bool
-positive [] = true
-positive (k ∷ ks) = ltb 0 k && positive ks
-
+-- every check of a list of rows is above 0
 positives : List Row → Bool
 positives [] = true
 positives (r ∷ rs) = positive (r .checks) && positives rs
@@ -33,20 +30,9 @@ positive-at [] k h = refl
 positive-at (r ∷ rs) zero h = left-true (positive (r .checks)) (positives rs) h
 positive-at (r ∷ rs) (suc k) h = positive-at rs k (right-true (positive (r .checks)) (positives rs) h)
 
-positive-row : (a : Act) → positive (rowOf a .checks) ≡ true
+pub positive-row : (a : Act) → positive (rowOf a .checks) ≡ true
 unfolding positives positive
 positive-row a = positive-at table (a .code) refl
-
--- one check more, at the end
-first-last : (p : ℕ → Bool) (ks : List ℕ) (j : ℕ) → positive ks ≡ true → firstIn p (ks ++ (j ∷ [])) ≡ cond (eqb (firstIn p ks) 0) (cond (p j) j 0) (firstIn p ks)
-unfolding firstIn positive
-first-last p [] j h = refl
-first-last p (k ∷ ks) j h = go (p k) (first-last p ks j (right-true (ltb 0 k) (positive ks) h))
-  where
-    go : (b : Bool) → firstIn p (ks ++ (j ∷ [])) ≡ cond (eqb (firstIn p ks) 0) (cond (p j) j 0) (firstIn p ks)
-        → cond b k (firstIn p (ks ++ (j ∷ []))) ≡ cond (eqb (cond b k (firstIn p ks)) 0) (cond (p j) j 0) (cond b k (firstIn p ks))
-    go true e = rw (ne-eqb k 0 (λ q. omega (arith, ltb-true 0 k (left-true (ltb 0 k) (positive ks) h))))
-    go false e = e
 
 module _ (n : ℕ) (a : Act) (s : List ℕ) where
   -- the first of an act's own checks whose rule applies, 2 among them, or 0

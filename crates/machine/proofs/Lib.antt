@@ -1,1 +1,4 @@
+pub mod Firsts
 pub mod Judged
+pub mod Outcomes
+pub mod Refusals
