@@ -2,3 +2,5 @@ pub mod Firsts
 pub mod Judged
 pub mod Outcomes
 pub mod Refusals
+pub mod Rules
+pub mod Hold

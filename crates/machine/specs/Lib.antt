@@ -1,3 +1,4 @@
 pub mod Acts
 pub mod Effects
 pub mod Machine
+pub mod Ready
