@@ -30,7 +30,7 @@ unfolding silent
 silent-zeros zero = refl
 silent-zeros (suc k) = silent-zeros k
 
-silent-drop : (k : ℕ) (x : List ℕ) → silent x ≡ true → silent (drop k x) ≡ true
+pub silent-drop : (k : ℕ) (x : List ℕ) → silent x ≡ true → silent (drop k x) ≡ true
 unfolding silent
 silent-drop zero x h = h
 silent-drop (suc k) [] h = h

@@ -4,3 +4,4 @@ pub mod Formed
 pub mod Places
 pub mod Written
 pub mod Rows
+pub mod Fresh

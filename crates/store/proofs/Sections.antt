@@ -55,10 +55,10 @@ parts-end : (w i n : ℕ) → i < n → w * i + w ≤ w * n
 parts-end w i n h = next-row w i n h
 
 -- section k of a table, none behind its end; where it begins
-abbrev sectionOf : List Section → ℕ → Section
+abbrev pub sectionOf : List Section → ℕ → Section
 sectionOf ks k = getD ks k (record { rows = 0; columns = 0; bytes = 0 })
 
-abbrev begins : List Section → ℕ → ℕ
+abbrev pub begins : List Section → ℕ → ℕ
 begins ks k = total (take k ks)
 
 -- each section begins where the one before it ends
@@ -105,11 +105,14 @@ module _ (ks : List Section) where
         omega (arith, column-low, next-row (k .columns) (c .row) (k .rows) row-low, mul-comm (k .rows) (k .columns))
 
     -- a stretch ends within its section, and within the table
+    pub within-section : longOf c * numberOf c + longOf c ≤ extent (sectionOf ks (c .part))
+    within-section = parts-end (longOf c) (numberOf c) _ number-low
+
     ends-section : placeOf c + longOf c ≤ begins ks (suc (c .part))
-    ends-section = omega (arith, parts-end (longOf c) (numberOf c) _ number-low, begins-next ks (c .part))
+    ends-section = omega (arith, within-section, begins-next ks (c .part))
 
     pub ends-of : placeOf c + longOf c ≤ total ks
-    ends-of = omega (arith, parts-end (longOf c) (numberOf c) _ number-low, section-ends (c .part))
+    ends-of = omega (arith, within-section, section-ends (c .part))
 
   -- one of them ends before the other begins
   abbrev pub ApartOf : Stretch → Stretch → Type 0
