@@ -5,3 +5,4 @@ pub mod Places
 pub mod Written
 pub mod Rows
 pub mod Fresh
+pub mod Objects
