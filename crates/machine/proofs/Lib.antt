@@ -4,3 +4,6 @@ pub mod Outcomes
 pub mod Refusals
 pub mod Rules
 pub mod Hold
+pub mod Passed
+pub mod Fits
+pub mod Kept
