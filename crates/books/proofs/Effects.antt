@@ -12,20 +12,8 @@ use lib.ListN.{length, getD, set, length-set}
 use lib.Seq.{getD-set-same, getD-set-other}
 use borrow.Author.Tests.{le-leb, lt-leb, lt-ltb, le-ltb}
 use Rattle.paper.specs.Paper.{Kind, send, receive, create, delete}
+use Rattle.books.specs.Counters.{holdingFits, transitFits}
 use Rattle.books.specs.Books.{holdingLimit, transitTop, transitAt, setTransit, transitEffect, holdingEffect}
-
--- an event of the kind keeps a holding x in range, and a transit x as it is stored
-abbrev pub holdingFits : Kind → ℕ → Bool
-holdingFits send x = true
-holdingFits receive x = ltb x holdingLimit
-holdingFits create x = ltb x holdingLimit
-holdingFits delete x = ltb 0 x
-
-abbrev pub transitFits : ℕ → Kind → ℕ → Bool
-transitFits n send x = ltb x (transitTop n)
-transitFits n receive x = ltb 0 x
-transitFits n create x = true
-transitFits n delete x = true
 
 -- one up is at most m where it was below m
 up-fits : (x m : ℕ) → leb (x + 1) m ≡ ltb x m
