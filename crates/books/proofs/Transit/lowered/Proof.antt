@@ -2,7 +2,7 @@
 -- Assumes nothing.
 use mathlib.Core.Path.{_≡_, ap, _∙_}
 use borrow.Author.Needs.{needs}
-use lib.IntN.{ℤ, pos, predℤ, -ℤ-one}
+use lib.IntN.{ℤ, pos, predℤ, -ℤ-one, _-ℤ_}
 use mir.Syntax.{w16}
 use mir.Val.{toZ, ofZ}
 use mir.ValLaws.{toZ-ofZ}
