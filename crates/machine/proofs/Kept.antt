@@ -11,7 +11,8 @@ use lib.ListN.{length, getD}
 use borrow.Author.Tests.{eq-eqb, ne-eqb, eqb-true, eqb-false, lt-ltb}
 use Rattle.paper.specs.Paper.{Kind, send, receive, create, delete, number, Event}
 use Rattle.books.specs.Books.{objectLimit, transitTop, transitEffect, holdingEffect}
-use Rattle.books.proofs.Effects.{holdingFits, transitFits, length-holding}
+use Rattle.books.specs.Counters.{holdingFits, transitFits}
+use Rattle.books.proofs.Effects.{length-holding}
 use Rattle.lanes.specs.Lane.{reportWidth, reportPlaces, count, added}
 use Rattle.lanes.proofs.Lane.{means-lane, length-added, added-formed}
 use Rattle.store.specs.Layout.{Stretch, objects, held, heard, transit, reports, long, read, edit}
@@ -22,7 +23,7 @@ use Rattle.store.proofs.Formed.{Formed, formed-means}
 use Rattle.store.proofs.Written.{reports-written}
 use Rattle.store.proofs.Rows.{rows-event}
 use Rattle.machine.specs.Effects.{hears, tells, happens}
-use Rattle.machine.proofs.Fits.{hearsFits, happensFits}
+use Rattle.machine.specs.Fits.{hearsFits, happensFits}
 
 -- An event that can happen: its ports are ports, its object is an object, and it names another port if it is s, else its own.
 pub record Proper (n : ℕ) (e : Event) : Type 0 where

@@ -5,5 +5,4 @@ pub mod Refusals
 pub mod Rules
 pub mod Hold
 pub mod Passed
-pub mod Fits
 pub mod Kept

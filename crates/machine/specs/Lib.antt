@@ -2,3 +2,4 @@ pub mod Acts
 pub mod Effects
 pub mod Machine
 pub mod Ready
+pub mod Fits
