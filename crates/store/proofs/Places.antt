@@ -9,6 +9,7 @@ use lib.ListN.{length, getD, set, take, drop, take-append-drop}
 use lib.Seq.{length-take-le, set-append-left, getD-take, getD-drop}
 use borrow.Rule.Slice.PartMut.{putMid}
 use Rattle.books.specs.Books.{objectLimit}
+use Rattle.books.proofs.Parts.{part-long}
 use Rattle.lanes.specs.Lane.{entry}
 use Rattle.store.specs.Layout.{Stretch, objects, size, long, place, read, edit}
 use Rattle.store.specs.Stretches.{Few, Begins, Numbered}
@@ -41,6 +42,11 @@ module _ {n : ℕ} {c : Stretch} {r : ℕ} (h : Begins n c r) (s : List ℕ) whe
   pub oldest-is : (w i k : ℕ) → k ≡ r + 1 + i → i < w → 1 + w ≤ long n c → getD s k 0 ≡ getD (entry w 0 (read n c s)) i 0
   oldest-is w i k e low fits =
       rw (getD-take w (drop (1 + w * 0) (read n c s)) i 0 low, getD-drop) (byte-is (1 + w * 0 + i) k (omega arith) (omega arith))
+
+  -- all its bytes
+  pub bytes-long : length s ≡ size n → length (read n c s) ≡ long n c
+  unfolding read
+  bytes-long sized = part-long (place n c) (long n c) s (omega (arith, h .at, h .ends))
 
   -- the part that is lent, and the store once it is back as ys
   pub part-is : (e : ℕ) → e ≡ r + long n c → take (e - r) (drop r s) ≡ read n c s

@@ -1,15 +1,20 @@
 // One stretch of the lent store of n ports at a time: where it begins, what it says, and what an event, an entry or an owner does to
 // it. Its part of the store is lent to the function that knows it.
 ghost use mathlib.Core.Path.{_≡_};
+ghost use mathlib.Core.Bool.{true};
 ghost use Prim.Native.Nat.{_+_, _*_, _≤_, _<_};
 ghost use lib.ListN.{getD, set};
-ghost use Rattle.books.specs.Books.{objectLimit};
+ghost use Rattle.books.specs.Books.{objectLimit, holdingEffect, transitEffect, transitTop};
+ghost use Rattle.books.specs.Counters.{kindOf, holdingFits, transitFits};
 ghost use Rattle.lanes.specs.Lane.{pointerWidth, reportWidth, count, entry};
 ghost use Rattle.store.specs.Layout.{objects, held, heard, transit, pointers, reports, read, edit};
 ghost use Rattle.store.specs.Store.{objectByte, heldOf, heardOf, transitOf, onWay};
 ghost use Rattle.store.specs.Stretches.{Few, Lent, Begins, Numbered};
+use books::Event;
 
 const OBJECTS: usize = 64; // the bytes of a row of holdings
+
+const TRANSITS: usize = 2 * OBJECTS; // the bytes of a row of transits
 
 const POINTER_LANE: usize = 17; // the bytes of a pointer lane
 
@@ -34,7 +39,7 @@ fn transit_place(n: usize, p: usize) -> usize
     requires { ⌜ Few n × (p < n) ⌝ }
     ensures { λ r. ⌜ Begins n (transit p) r ⌝ }
 {
-    OBJECTS + 2 * OBJECTS * n + 2 * OBJECTS * p
+    OBJECTS + 2 * OBJECTS * n + TRANSITS * p
 }
 
 // The number of the lane from port a to port b among all lanes of its kind.
@@ -83,6 +88,16 @@ pub fn heard_of(store: &[u8], n: usize, p: usize, o: usize) -> u8
     store[heard_place(n, p) + o]
 }
 
+// Port p's heard transit of o, as it is stored.
+pub fn transit_of(store: &[u8], n: usize, p: usize, o: usize) -> u16
+    requires { ⌜ Lent n (now store) × ((p < n) × (o < objectLimit)) ⌝ }
+    ensures { λ r. ⌜ r ≡ transitOf n p o (now (store .entry)) ⌝ }
+{
+    let at = transit_place(n, p);
+    let end = at + TRANSITS;
+    books::transit_at(&store[at..end], o)
+}
+
 // The entries of the pointer lane from port a to port b, and of the report lane.
 pub fn pointer_count(store: &[u8], n: usize, a: usize, b: usize) -> u8
     requires { ⌜ Lent n (now store) × ((a < n) × (b < n)) ⌝ }
@@ -119,4 +134,35 @@ pub fn set_object(store: &mut [u8], n: usize, o: usize, b: u8)
     ensures { λ _. ⌜ now (store .exit) ≡ edit n objects (λ r. set r o b) (now (store .entry)) ⌝ }
 {
     store[o] = b;
+}
+
+// An event about o: what it does to port p's true holdings as it happens, and to its heard holdings and heard transits as it is heard.
+pub fn change_held(store: &mut [u8], n: usize, p: usize, o: usize, e: Event)
+    requires { ⌜ Lent n (now store) × ((p < n) × (o < objectLimit)) ⌝ }
+    requires { ⌜ holdingFits (kindOf e) (heldOf n p o (now store)) ≡ true ⌝ }
+    ensures { λ _. ⌜ now (store .exit) ≡ edit n (held p) (holdingEffect (kindOf e) o) (now (store .entry)) ⌝ }
+{
+    let at = held_place(n, p);
+    let end = at + OBJECTS;
+    books::holding_effect(e, &mut store[at..end], o);
+}
+
+pub fn change_heard(store: &mut [u8], n: usize, p: usize, o: usize, e: Event)
+    requires { ⌜ Lent n (now store) × ((p < n) × (o < objectLimit)) ⌝ }
+    requires { ⌜ holdingFits (kindOf e) (heardOf n p o (now store)) ≡ true ⌝ }
+    ensures { λ _. ⌜ now (store .exit) ≡ edit n (heard p) (holdingEffect (kindOf e) o) (now (store .entry)) ⌝ }
+{
+    let at = heard_place(n, p);
+    let end = at + OBJECTS;
+    books::holding_effect(e, &mut store[at..end], o);
+}
+
+pub fn change_transit(store: &mut [u8], n: usize, p: usize, o: usize, e: Event)
+    requires { ⌜ Lent n (now store) × ((p < n) × (o < objectLimit)) ⌝ }
+    requires { ⌜ (transitOf n p o (now store) ≤ transitTop n) × (transitFits n (kindOf e) (transitOf n p o (now store)) ≡ true) ⌝ }
+    ensures { λ _. ⌜ now (store .exit) ≡ edit n (transit p) (transitEffect (kindOf e) o) (now (store .entry)) ⌝ }
+{
+    let at = transit_place(n, p);
+    let end = at + TRANSITS;
+    books::transit_effect(e, &mut store[at..end], o, n);
 }
