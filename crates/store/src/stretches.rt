@@ -136,6 +136,34 @@ pub fn set_object(store: &mut [u8], n: usize, o: usize, b: u8)
     store[o] = b;
 }
 
+// Does an event about o leave port p's true holding in range as it happens, its heard holding and heard transit as it is heard?
+pub fn held_fits(store: &[u8], n: usize, p: usize, o: usize, e: Event) -> bool
+    requires { ⌜ Lent n (now store) × ((p < n) × (o < objectLimit)) ⌝ }
+    ensures { λ r. ⌜ r ≡ holdingFits (kindOf e) (heldOf n p o (now (store .entry))) ⌝ }
+{
+    let at = held_place(n, p);
+    let end = at + OBJECTS;
+    books::holding_fits(e, &store[at..end], o)
+}
+
+pub fn heard_fits(store: &[u8], n: usize, p: usize, o: usize, e: Event) -> bool
+    requires { ⌜ Lent n (now store) × ((p < n) × (o < objectLimit)) ⌝ }
+    ensures { λ r. ⌜ r ≡ holdingFits (kindOf e) (heardOf n p o (now (store .entry))) ⌝ }
+{
+    let at = heard_place(n, p);
+    let end = at + OBJECTS;
+    books::holding_fits(e, &store[at..end], o)
+}
+
+pub fn transit_fits(store: &[u8], n: usize, p: usize, o: usize, e: Event) -> bool
+    requires { ⌜ Lent n (now store) × ((p < n) × ((o < objectLimit) × (transitOf n p o (now store) ≤ transitTop n))) ⌝ }
+    ensures { λ r. ⌜ r ≡ transitFits n (kindOf e) (transitOf n p o (now (store .entry))) ⌝ }
+{
+    let at = transit_place(n, p);
+    let end = at + TRANSITS;
+    books::transit_fits(e, &store[at..end], o, n)
+}
+
 // An event about o: what it does to port p's true holdings as it happens, and to its heard holdings and heard transits as it is heard.
 pub fn change_held(store: &mut [u8], n: usize, p: usize, o: usize, e: Event)
     requires { ⌜ Lent n (now store) × ((p < n) × (o < objectLimit)) ⌝ }
@@ -158,8 +186,8 @@ pub fn change_heard(store: &mut [u8], n: usize, p: usize, o: usize, e: Event)
 }
 
 pub fn change_transit(store: &mut [u8], n: usize, p: usize, o: usize, e: Event)
-    requires { ⌜ Lent n (now store) × ((p < n) × (o < objectLimit)) ⌝ }
-    requires { ⌜ (transitOf n p o (now store) ≤ transitTop n) × (transitFits n (kindOf e) (transitOf n p o (now store)) ≡ true) ⌝ }
+    requires { ⌜ Lent n (now store) × ((p < n) × ((o < objectLimit) × (transitOf n p o (now store) ≤ transitTop n))) ⌝ }
+    requires { ⌜ transitFits n (kindOf e) (transitOf n p o (now store)) ≡ true ⌝ }
     ensures { λ _. ⌜ now (store .exit) ≡ edit n (transit p) (transitEffect (kindOf e) o) (now (store .entry)) ⌝ }
 {
     let at = transit_place(n, p);

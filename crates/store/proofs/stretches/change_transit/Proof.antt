@@ -12,7 +12,7 @@ transit-effect-requires : tie.Need-transit-effect-requires
 transit-effect-requires c κs =
     let k = c .before .before .before in
     let h = c .before .transit-place .ensures in
-    rw (part-is h (k .args .store .now) _ refl) (record { ports = (omega arith, omega arith); place = omega (arith, bytes-long h (k .args .store .now) (k .pre .0 .0 .sized)); range = k .pre .1 .0 }, k .pre .1 .1)
+    rw (part-is h (k .args .store .now) _ refl) (record { ports = (omega arith, omega arith); place = omega (arith, bytes-long h (k .args .store .now) (k .pre .0 .0 .sized)); range = k .pre .0 .1 .1 .1 }, k .pre .1)
 
 returns : tie.Need-returns
 returns c =
