@@ -1,10 +1,9 @@
--- What it says that a rule does not apply, rule by rule; and that none of an act's own checks gives its number.
+-- What it says that a rule does not apply, rule by rule.
 -- Assumes nothing.
 use mathlib.Core.Path.{_≡_, refl, sym}
 use mathlib.Core.Bool.{Bool, true, false, cond, not, _&&_, _||_, true≢false}
-use mathlib.Core.List.{List, _∷_}
+use mathlib.Core.List.{List}
 use Prim.Native.Nat.{ℕ, _+_, _<_, _≤_}
-use native.Mathlib.Omega.{arith}
 use lib.Dec.{leb, eqb}
 use borrow.Author.Tests.{leb-false, ltb-false, eqb-false, ne-eqb}
 use Rattle.books.specs.Books.{objectLimit, holdingLimit}
@@ -13,16 +12,7 @@ use Rattle.store.specs.Layout.{pointers, reports, read}
 use Rattle.store.specs.Store.{objectByte, home, heldOf, onWay}
 use Rattle.machine.specs.Acts.{Act, rowOf, is, HEAR}
 use Rattle.machine.specs.Effects.{lowestFree, eventIn}
-use Rattle.machine.specs.Machine.{firstIn, standing, rule}
-
--- no check of a list gives its number: not the first, and none of the rest
-pub first-passed : (p : ℕ → Bool) (k : ℕ) (ks : List ℕ) → 0 < k → firstIn p (k ∷ ks) ≡ 0 → (p k ≡ false) × (firstIn p ks ≡ 0)
-unfolding firstIn
-first-passed p k ks h e = go (p k) refl e
-  where
-    go : (b : Bool) → p k ≡ b → cond b k (firstIn p ks) ≡ 0 → (p k ≡ false) × (firstIn p ks ≡ 0)
-    go true q r = absurd (omega arith)
-    go false q r = (q, r)
+use Rattle.machine.specs.Machine.{standing, rule}
 
 left-false : (a b : Bool) → (a || b) ≡ false → a ≡ false
 left-false true b e = e
