@@ -6,3 +6,4 @@ pub mod Rules
 pub mod Hold
 pub mod Passed
 pub mod Kept
+pub mod Heard

@@ -3,3 +3,4 @@ pub mod Effects
 pub mod Machine
 pub mod Ready
 pub mod Fits
+pub mod Told

@@ -1,4 +1,5 @@
 // The ten acts on the lent store.
+pub mod events;
 pub mod reads;
 
 // What an act answers: taken, with its value; refused, with the refusal number; or refused because a port stands against
