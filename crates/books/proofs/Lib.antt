@@ -4,3 +4,4 @@ pub mod Transits
 pub mod Rows
 pub mod Parts
 pub mod Effects
+pub mod Loops
