@@ -6,3 +6,7 @@ pub mod Written
 pub mod Rows
 pub mod Fresh
 pub mod Objects
+pub mod Checked
+pub mod CheckedLanes
+pub mod Started
+pub mod CheckedWhole

@@ -1,3 +1,4 @@
 pub mod Layout
 pub mod Store
 pub mod Stretches
+pub mod Check
