@@ -1,14 +1,16 @@
 -- Laws of what is said of all the numbers below n.
 -- Assumes nothing.
 use mathlib.Core.Path.{_≡_, refl, sym, subst, ap, _∙_}
-use mathlib.Core.Bool.{Bool, true, false, _&&_, and-assoc}
+use mathlib.Core.Bool.{Bool, true, false, cond, _&&_, and-assoc}
 use mathlib.Core.Logic.{⊎-elim}
-use Prim.Native.Nat.{ℕ, zero, suc, _+_, _*_, _<_}
+use Prim.Native.Nat.{ℕ, zero, suc, _+_, _*_, _≤_, _<_}
 use native.Mathlib.Nat.{le-of-suc-le-suc, not-suc-le-zero, eq-or-lt-of-le, add-assoc, add-zero, add-suc, mul-zero, mul-suc}
 use native.Mathlib.Numerals.{add-one}
 use native.Mathlib.Decide.{ℕ-discrete}
 use native.Mathlib.Omega.{arith}
-use Rattle.books.specs.Numbers.{every, sumTo}
+use lib.Dec.{ltb}
+use borrow.Author.Tests.{ltb-true, ltb-false}
+use Rattle.books.specs.Numbers.{every, first, sumTo}
 use Rattle.books.proofs.Booleans.{both-true, left-true, right-true, bool-ext}
 
 module _ (p : ℕ → Bool) where
@@ -83,3 +85,39 @@ pub every-but-pair : (p q : ℕ → ℕ → Bool) (n a b : ℕ) → a < n → b 
 every-but-pair p q n a b ha hb e f =
     every-but (λ i. every n (p i)) (λ i. every n (q i)) n a ha e (λ i h d. every-ext (q i) (p i) n (λ j k. f i j (λ r. absurd (d r))))
     ∙ every-but (p a) (q a) n b hb (every-at (λ i. every n (p i)) n a e ha) (λ j k d. f a j (λ r. d))
+
+-- the first number below n of which p holds: p holds of it, and of none before it
+module _ (p : ℕ → Bool) where
+  pub first-most : (n : ℕ) → first n p ≤ n
+  unfolding first
+  first-most zero = omega arith
+  first-most (suc n) = go (ltb (first n p) n) refl (p n)
+    where
+      go : (a : Bool) → ltb (first n p) n ≡ a → (b : Bool) → cond a (first n p) (cond b n (suc n)) ≤ suc n
+      go true q b = omega (arith, ltb-true (first n p) n q)
+      go false q true = omega arith
+      go false q false = omega arith
+
+  pub first-at : (n : ℕ) → first n p < n → p (first n p) ≡ true
+  unfolding first
+  first-at zero h = absurd (not-suc-le-zero h)
+  first-at (suc n) h = go (ltb (first n p) n) refl (p n) refl (λ q. first-at n q) h
+    where
+      go : (a : Bool) → ltb (first n p) n ≡ a → (b : Bool) → p n ≡ b → (first n p < n → p (first n p) ≡ true)
+          → cond a (first n p) (cond b n (suc n)) < suc n → p (cond a (first n p) (cond b n (suc n))) ≡ true
+      go true q b r f k = f (ltb-true (first n p) n q)
+      go false q true r f k = r
+      go false q false r f k = absurd (omega (arith, k))
+
+  pub first-before : (n i : ℕ) → i < n → i < first n p → p i ≡ false
+  unfolding first
+  first-before zero i h k = absurd (not-suc-le-zero h)
+  first-before (suc n) i h k = go (ltb (first n p) n) refl (p n) refl (λ l q. first-before n i l q) k
+    where
+      go : (a : Bool) → ltb (first n p) n ≡ a → (b : Bool) → p n ≡ b → (i < n → i < first n p → p i ≡ false)
+          → i < cond a (first n p) (cond b n (suc n)) → p i ≡ false
+      go true q b r f l = let m = ltb-true (first n p) n q in f (omega arith) l
+      go false q true r f l = let m = ltb-false (first n p) n q in f l (omega arith)
+      go false q false r f l =
+          let m = ltb-false (first n p) n q in
+          elim (ℕ-discrete i n) [ yes e ↦ rw e r | no e ↦ f (omega arith) (omega arith) ]
