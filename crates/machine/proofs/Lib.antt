@@ -7,3 +7,4 @@ pub mod Hold
 pub mod Passed
 pub mod Kept
 pub mod Heard
+pub mod KeptActs
