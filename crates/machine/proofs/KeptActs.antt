@@ -2,33 +2,32 @@
 -- exactly when the act fits.
 -- Assumes nothing.
 use mathlib.Core.Path.{_≡_, refl, sym, ap, _∙_}
-use mathlib.Core.Bool.{Bool, true, false, cond, not, _&&_}
+use mathlib.Core.Bool.{Bool, true, false, cond, not}
 use mathlib.Core.List.{List, [], _∷_}
-use Prim.Native.Nat.{ℕ, _+_, _-_, _*_, _/_, _%_, _<_, _≤_}
+use Prim.Native.Nat.{ℕ, _+_, _<_}
 use native.Mathlib.Nat.{pos-of-ne-zero}
 use native.Mathlib.Decide.{decLt}
 use native.Mathlib.Omega.{arith}
-use lib.Dec.{leb, ltb, eqb}
-use lib.ListN.{length, getD, List·getD-eq-default}
-use borrow.Author.Tests.{eq-eqb, ne-eqb, eqb-true, eqb-false, lt-ltb, ltb-true, not-true}
-use Rattle.paper.specs.Paper.{Kind, send, receive, create, delete, number, Event}
+use lib.Dec.{eqb}
+use lib.ListN.{length, List·getD-eq-default}
+use borrow.Author.Tests.{ne-eqb, eqb-false, lt-ltb, not-true}
+use Rattle.paper.specs.Paper.{Kind, receive, create, delete, number, Event}
 use Rattle.books.specs.Books.{objectLimit, holdingLimit, transitTop}
-use Rattle.books.specs.Counters.{holdingFits, transitFits}
-use Rattle.lanes.specs.Lane.{pointerWidth, pointerPlaces, reportWidth, reportPlaces, count, entry, added, taken}
+use Rattle.lanes.specs.Lane.{pointerWidth, pointerPlaces, reportPlaces, count, added, taken}
 use Rattle.lanes.proofs.Lane.{LaneForm, means-lane, length-added, added-formed, length-taken, taken-formed}
-use Rattle.store.specs.Layout.{Stretch, objects, held, heard, transit, pointers, reports, long, read, edit}
-use Rattle.store.specs.Store.{pointerRight, reportRight, reported, objectByte, home, heldOf, heardOf, transitOf, wellFormed}
+use Rattle.store.specs.Layout.{Stretch, objects, held, transit, pointers, reports, long, read, edit}
+use Rattle.store.specs.Store.{pointerRight, objectByte, home, heldOf, wellFormed}
 use Rattle.store.proofs.Sections.{same}
 use Rattle.store.proofs.Frame.{inside, port-inside, lane-inside, read-long, read-other}
 use Rattle.store.proofs.Formed.{Formed, formed-means}
-use Rattle.store.proofs.Written.{pointers-written, reports-written}
-use Rattle.machine.specs.Acts.{Act, act, SEND, COPY, DROP, DELIVER, HEAR, rowOf, event, sending}
-use Rattle.machine.specs.Effects.{hears, happens, oldestPointer, oldestReport, after}
+use Rattle.store.proofs.Written.{pointers-written}
+use Rattle.machine.specs.Acts.{act, SEND, COPY, DROP, DELIVER, rowOf, event, sending}
+use Rattle.machine.specs.Effects.{happens, oldestPointer, after}
 use Rattle.machine.specs.Machine.{rule}
 use Rattle.machine.proofs.Firsts.{NoneOf}
 use Rattle.machine.proofs.Passed.{passed-A, passed-B, passed-4, passed-5, passed-6, passed-7, passed-8, passed-9, passed-10, passed-11}
-use Rattle.machine.proofs.Fits.{hearsFits, happensFits}
-use Rattle.machine.proofs.Kept.{Proper, hears-kept, happens-kept}
+use Rattle.machine.proofs.Fits.{happensFits}
+use Rattle.machine.proofs.Kept.{Proper, happens-kept}
 
 -- an event of a kind that is not s, at a port
 pub proper-at : (n : ℕ) (k : Kind) (o p : ℕ) → p < n → o < objectLimit → 0 < number k → Proper n (event k o p)

@@ -8,3 +8,4 @@ pub mod Passed
 pub mod Kept
 pub mod Heard
 pub mod KeptActs
+pub mod KeptHear
