@@ -12,7 +12,7 @@ use Rattle.books.proofs.Booleans.{left-true, right-true}
 use Rattle.books.proofs.Effects.{length-transit}
 use Rattle.store.specs.Layout.{transit, heard, edit, read, long}
 use Rattle.store.specs.Store.{heardOf, transitOf}
-use Rattle.store.specs.Stretches.{Lent}
+use Rattle.stretches.specs.Stretches.{Lent}
 use Rattle.store.proofs.Frame.{port-inside, read-long, length-edit, read-other}
 use Rattle.machine.specs.Effects.{hears}
 use Rattle.machine.specs.Told.{Hearable}

@@ -26,7 +26,7 @@ use Rattle.machine.specs.Effects.{happens, oldestPointer, after}
 use Rattle.machine.specs.Machine.{rule}
 use Rattle.machine.proofs.Firsts.{NoneOf}
 use Rattle.machine.proofs.Passed.{passed-A, passed-B, passed-4, passed-5, passed-6, passed-7, passed-8, passed-9, passed-10, passed-11}
-use Rattle.machine.proofs.Fits.{happensFits}
+use Rattle.machine.specs.Fits.{happensFits}
 use Rattle.machine.proofs.Kept.{Proper, happens-kept}
 
 -- an event of a kind that is not s, at a port

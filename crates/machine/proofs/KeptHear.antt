@@ -26,7 +26,7 @@ use Rattle.machine.specs.Effects.{hears, oldestReport, after}
 use Rattle.machine.specs.Machine.{rule}
 use Rattle.machine.proofs.Firsts.{NoneOf}
 use Rattle.machine.proofs.Passed.{passed-A, passed-B, passed-6, passed-9}
-use Rattle.machine.proofs.Fits.{hearsFits}
+use Rattle.machine.specs.Fits.{hearsFits}
 use Rattle.machine.proofs.Kept.{hears-kept}
 
 module _ (n : ℕ) (few : transitTop n < 65535) (s : List ℕ) (formed : wellFormed n s ≡ true) (A B : ℕ) (ha : A < n) (hb : B < n) (ne : ¬ (A ≡ B))

@@ -8,7 +8,7 @@ use borrow.Author.Tests.{le-leb, lt-leb, eq-eqb, ne-eqb}
 use Rattle.books.specs.Books.{objectLimit}
 use Rattle.store.specs.Store.{objectByte}
 use Rattle.machine.specs.Acts.{Act, rowOf}
-use Rattle.store.specs.Stretches.{Lent}
+use Rattle.stretches.specs.Stretches.{Lent}
 use Rattle.store.proofs.Formed.{formed-means}
 use Rattle.machine.specs.Machine.{rule}
 use Rattle.machine.specs.Ready.{Ready}

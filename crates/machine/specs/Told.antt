@@ -8,7 +8,7 @@ use Rattle.paper.specs.Paper.{Event}
 use Rattle.books.specs.Books.{objectLimit, transitTop}
 use Rattle.books.specs.Counters.{kindOf}
 use Rattle.store.specs.Store.{transitOf}
-use Rattle.store.specs.Stretches.{Lent}
+use Rattle.stretches.specs.Stretches.{Lent}
 use Rattle.machine.specs.Fits.{hearsFits}
 use Rattle.machine.specs.declared.events.Happening.{Happening}
 

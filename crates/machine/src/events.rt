@@ -3,7 +3,7 @@ ghost use mathlib.Core.Path.{_≡_};
 ghost use Rattle.machine.specs.Effects.{hears};
 ghost use Rattle.machine.specs.Told.{told, Hearable};
 use books::Event;
-use store::stretches;
+
 
 // An event about an object: what it is, where it happens, and the port that it names.
 pub struct Happening {

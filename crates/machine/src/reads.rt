@@ -16,8 +16,8 @@ pub fn hold(store: &[u8], n: usize, a: u32, o: u32, b: u32) -> Reply
     if 64 <= o {
         return Reply::Refused(4);
     }
-    if store::stretches::object_byte(store, n, o as usize) == 0 {
+    if stretches::object_byte(store, n, o as usize) == 0 {
         return Reply::Refused(5);
     }
-    Reply::Taken(store::stretches::held_of(store, n, a as usize, o as usize) as u32)
+    Reply::Taken(stretches::held_of(store, n, a as usize, o as usize) as u32)
 }

@@ -1,12 +1,7 @@
 pub mod Sections
 pub mod Frame
 pub mod Formed
-pub mod Places
 pub mod Written
 pub mod Rows
 pub mod Fresh
 pub mod Objects
-pub mod Checked
-pub mod CheckedLanes
-pub mod Started
-pub mod CheckedWhole

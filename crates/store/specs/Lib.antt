@@ -1,4 +1,2 @@
 pub mod Layout
 pub mod Store
-pub mod Stretches
-pub mod Check

@@ -1,6 +1,1 @@
-// The lent store: the full check of whether it is well formed, START, and one thin function a stretch.
-pub mod check; // the full check
-mod counts; // its part on object bytes, holdings and transits
-mod entries; // its part on lanes
-pub mod start; // START
-pub mod stretches; // one stretch at a time
+// The lent store as definitions and laws; crates form and stretches have its code. Nothing here runs: see specs/.

@@ -1,0 +1,4 @@
+pub mod Checked
+pub mod CheckedLanes
+pub mod CheckedWhole
+pub mod Started
