@@ -3,6 +3,7 @@
 //! Clear before fast: every act is judged on a decoded copy of the store.
 
 pub mod bench;
+pub mod cases;
 pub mod compare;
 pub mod damage;
 pub mod dice;
