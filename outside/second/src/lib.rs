@@ -8,6 +8,7 @@ pub mod compare;
 pub mod damage;
 pub mod dice;
 pub mod layout;
+pub mod malformed;
 pub mod model;
 pub mod pairs;
 pub mod scripts;
