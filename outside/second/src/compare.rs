@@ -3,11 +3,13 @@
 
 use crate::damage;
 use crate::dice::Dice;
-use crate::layout::part;
+use crate::layout::{Machine, part};
 use crate::model::{self, Answer};
 use crate::pairs::{Met, name};
+use crate::rules;
 use crate::steer::Steer;
 use crate::stores;
+use crate::wellformed::well_formed;
 
 /// START as a library exports it.
 pub type Start = unsafe extern "C" fn(store: *mut u8, len: usize) -> Answer;
@@ -278,6 +280,7 @@ impl Comparison {
     fn call(&mut self, call: Call) -> Result<Answer, Box<Difference>> {
         self.calls += 1;
         let before = self.store().to_vec();
+        let rules = self.applying(call);
         let answer = carry_out(OURS, call, &mut self.our_buffer[self.begin..], self.len);
         let foreign =
             carry_out(self.foreign, call, &mut self.foreign_buffer[self.begin..], self.len);
@@ -286,6 +289,7 @@ impl Comparison {
             Call::Act(numbers) => {
                 let store = &self.our_buffer[self.begin..self.begin + self.len];
                 self.met.note_act(store, numbers, answer);
+                self.met.note_order(numbers[0], &rules);
                 if self.kind == REACHED {
                     self.met.note(format!("reached {} {}", name(numbers[0]), answer.refusal));
                 }
@@ -296,10 +300,27 @@ impl Comparison {
             let text = format!("{call:?}: ours {answer:?}, foreign {foreign:?}, {bytes}");
             return Err(self.wrong(&text, before));
         }
+        let ruled = match rules.first() {
+            Some(&first) => answer.refusal == first,
+            None => [0, 1, 2, 14].contains(&answer.refusal),
+        };
+        if !ruled {
+            return Err(self.wrong(&format!("{call:?}: {answer:?}, but {rules:?} apply"), before));
+        }
         if answer.refusal != 0 && self.store() != before {
             return Err(self.wrong(&format!("{call:?}: a refusal changed a byte"), before));
         }
         Ok(answer)
+    }
+
+    /// The rules that apply to an act on the lent store, if that is well formed.
+    fn applying(&self, call: Call) -> Vec<u32> {
+        match call {
+            Call::Act(numbers) if well_formed(self.store()) => {
+                rules::applying(&Machine::read(self.store()), numbers)
+            }
+            _ => Vec::new(),
+        }
     }
 
     /// The first bytes that are not equal, by their place in the store.

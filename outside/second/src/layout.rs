@@ -109,14 +109,11 @@ impl Machine {
             for to in 0..PORTS {
                 let lane = PORTS * from + to;
                 let pointers = &store[part::POINTERS + lane * part::POINTER_LANE..];
-                for place in 0..usize::from(pointers[0]) {
-                    machine.pointers[from][to].push(usize::from(pointers[1 + place]));
-                }
+                let entries = &pointers[1..][..usize::from(pointers[0])];
+                machine.pointers[from][to] = entries.iter().copied().map(usize::from).collect();
                 let reports = &store[part::REPORTS + lane * part::REPORT_LANE..];
-                for place in 0..usize::from(reports[0]) {
-                    let entry = [reports[1 + 2 * place], reports[2 + 2 * place]];
-                    machine.reports[from][to].push(Report::read(entry));
-                }
+                let entries = reports[1..][..2 * usize::from(reports[0])].chunks(2);
+                machine.reports[from][to] = entries.map(Report::read).collect();
             }
         }
         machine
@@ -160,7 +157,7 @@ impl Machine {
 
 impl Report {
     /// Decodes a well formed entry: object plus 64 x event, then the port sent to.
-    pub fn read(entry: [u8; 2]) -> Report {
+    pub fn read(entry: &[u8]) -> Report {
         let event = match entry[0] / OBJECTS as u8 {
             0 => Event::Sent(usize::from(entry[1])),
             1 => Event::Received,

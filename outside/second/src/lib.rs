@@ -11,6 +11,7 @@ pub mod layout;
 pub mod malformed;
 pub mod model;
 pub mod pairs;
+pub mod rules;
 pub mod scripts;
 pub mod steer;
 pub mod stores;

@@ -33,6 +33,15 @@ impl Met {
         self.note(pair);
     }
 
+    /// Counts which later checks applied together with the first that did.
+    pub fn note_order(&mut self, code: u32, rules: &[u32]) {
+        if let Some((first, later)) = rules.split_first() {
+            for other in later {
+                self.note(format!("{} {first} before {other}", name(code)));
+            }
+        }
+    }
+
     /// How often a line was met.
     pub fn times(&self, line: &str) -> u64 {
         self.0.get(line).copied().unwrap_or(0)

@@ -217,7 +217,7 @@ fn at_limits() -> Vec<Script> {
         bad("8,192 LFs", vec![b'\n'; LONGEST], 1),
         Script::long("8,193 LFs: LONG and BAD", vec![b'\n'; LONGEST + 1]),
         Script::long("8,193 NULs: LONG and BAD", vec![0; LONGEST + 1]),
-        Script::long("20,000 bytes: LONG and BAD", b"OBJECTS 01\n".repeat(2000)),
+        Script::long("22,000 bytes: LONG and BAD", b"OBJECTS 01\n".repeat(2000)),
         Script::long("100,000 bytes: LONG and BAD", vec![b'9'; 100_000]),
     ]
 }

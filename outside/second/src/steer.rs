@@ -104,9 +104,14 @@ impl Steer {
             _ => [a, o, b],
         };
         let mut numbers = [code, a, o, b];
-        if dice.once_in(10) {
+        let mut seldom = 10;
+        while dice.once_in(seldom) {
             let at = dice.below(4);
             numbers[at] = self.odd(numbers[at], dice);
+            seldom = 2;
+        }
+        if dice.once_in(30) {
+            numbers[3] = numbers[1];
         }
         numbers
     }

@@ -37,14 +37,19 @@ fn heard_transit(store: &[u8], port: usize, object: usize) -> i32 {
     i32::from(u16::from_le_bytes([store[at], store[at + 1]])) + LEAST_TRANSIT
 }
 
+/// The highest of some bytes.
+fn highest(bytes: &[u8]) -> u8 {
+    bytes.iter().fold(0, |highest, &byte| highest.max(byte))
+}
+
 /// Object bytes at most 8.
 fn object_bytes_in_range(store: &[u8]) -> bool {
-    store[part::HOMES..part::HOLDINGS].iter().all(|&byte| usize::from(byte) <= PORTS)
+    usize::from(highest(&store[part::HOMES..part::HOLDINGS])) <= PORTS
 }
 
 /// Holdings in range, true and heard.
 fn holdings_in_range(store: &[u8]) -> bool {
-    store[part::HOLDINGS..part::HEARD_TRANSITS].iter().all(|&byte| i32::from(byte) <= MOST_HELD)
+    i32::from(highest(&store[part::HOLDINGS..part::HEARD_TRANSITS])) <= MOST_HELD
 }
 
 /// Transits in range.
@@ -86,8 +91,7 @@ fn pointer_lanes_well_formed(store: &[u8]) -> bool {
             return false;
         }
         let (entries, rest) = bytes[1..].split_at(length);
-        entries.iter().all(|&entry| home(store, usize::from(entry)).is_some())
-            && rest.iter().all(|&byte| byte == 0)
+        entries.iter().all(|&entry| home(store, usize::from(entry)).is_some()) && highest(rest) == 0
     })
 }
 
@@ -103,7 +107,7 @@ fn report_lanes_well_formed(store: &[u8]) -> bool {
         }
         let (entries, rest) = bytes[1..].split_at(2 * length);
         entries.chunks(2).all(|entry| report_well_formed(store, from, to, entry[0], entry[1]))
-            && rest.iter().all(|&byte| byte == 0)
+            && highest(rest) == 0
     })
 }
 
