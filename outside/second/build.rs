@@ -14,4 +14,6 @@ fn main() {
     let path = fs::canonicalize(&named).expect("SZALWINEK_LIB names a file");
     println!("cargo:rerun-if-changed={}", path.display());
     println!("cargo:rustc-link-arg-bin=compare={}", path.display());
+    // A library for firmware brings its own panic handler; here std's stands for both.
+    println!("cargo:rustc-link-arg-bin=compare=-Wl,--allow-multiple-definition");
 }

@@ -280,10 +280,10 @@ impl Comparison {
     fn call(&mut self, call: Call) -> Result<Answer, Box<Difference>> {
         self.calls += 1;
         let before = self.store().to_vec();
-        let rules = self.applying(call);
-        let answer = carry_out(OURS, call, &mut self.our_buffer[self.begin..], self.len);
-        let foreign =
-            carry_out(self.foreign, call, &mut self.foreign_buffer[self.begin..], self.len);
+        let rules = self.rules(call);
+        let (begin, len) = (self.begin, self.len);
+        let answer = carry_out(OURS, call, &mut self.our_buffer, begin, len);
+        let foreign = carry_out(self.foreign, call, &mut self.foreign_buffer, begin, len);
         match call {
             Call::Start => self.met.note(format!("START {}", answer.refusal)),
             Call::Act(numbers) => {
@@ -300,11 +300,7 @@ impl Comparison {
             let text = format!("{call:?}: ours {answer:?}, foreign {foreign:?}, {bytes}");
             return Err(self.wrong(&text, before));
         }
-        let ruled = match rules.first() {
-            Some(&first) => answer.refusal == first,
-            None => [0, 1, 2, 14].contains(&answer.refusal),
-        };
-        if !ruled {
+        if answer.refusal != rules.first().copied().unwrap_or(0) {
             return Err(self.wrong(&format!("{call:?}: {answer:?}, but {rules:?} apply"), before));
         }
         if answer.refusal != 0 && self.store() != before {
@@ -313,13 +309,14 @@ impl Comparison {
         Ok(answer)
     }
 
-    /// The rules that apply to an act on the lent store, if that is well formed.
-    fn applying(&self, call: Call) -> Vec<u32> {
+    /// The refusals whose rules apply to a call on the lent store, the one to be given first.
+    fn rules(&self, call: Call) -> Vec<u32> {
         match call {
-            Call::Act(numbers) if well_formed(self.store()) => {
-                rules::applying(&Machine::read(self.store()), numbers)
-            }
-            _ => Vec::new(),
+            Call::Start if self.len != part::SIZE => vec![1],
+            Call::Start => Vec::new(),
+            Call::Act(_) if !well_formed(self.store()) => vec![1],
+            Call::Act([code, ..]) if !(1..=10).contains(&code) => vec![2],
+            Call::Act(numbers) => rules::applying(&Machine::read(self.store()), numbers),
         }
     }
 
@@ -343,11 +340,18 @@ impl Comparison {
     }
 }
 
-/// Makes a call of an implementation on the first `len` bytes of a buffer.
-fn carry_out(implementation: Implementation, call: Call, buffer: &mut [u8], len: usize) -> Answer {
-    let store = buffer.as_mut_ptr();
-    // SAFETY: the buffer has `len` bytes and a guard behind them; a library keeps to `len`.
+/// Makes a call of an implementation on the `len` bytes of a buffer that begin at `begin`.
+fn carry_out(
+    implementation: Implementation,
+    call: Call,
+    buffer: &mut [u8],
+    begin: usize,
+    len: usize,
+) -> Answer {
+    assert!(begin + len <= buffer.len());
+    // SAFETY: the bytes are the buffer's; a library that does not keep to them meets its guards.
     unsafe {
+        let store = buffer.as_mut_ptr().add(begin);
         match call {
             Call::Start => (implementation.start)(store, len),
             Call::Act([code, a, o, b]) => (implementation.act)(store, len, code, a, o, b),

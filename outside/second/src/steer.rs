@@ -86,7 +86,7 @@ impl Steer {
         let act = self.act(dice);
         let code = if act < 10 { act as u32 + 1 } else { self.no_act(dice) };
         let (a, o) = match act {
-            1..=3 | 9 => self.holder(store, dice),
+            1..=3 | 9 if !dice.once_in(8) => self.holder(store, dice),
             _ => (dice.pick(&self.ports), dice.pick(&self.objects)),
         };
         let (a, b) = match act {

@@ -37,6 +37,9 @@ const FOREIGN: Implementation =
 #[cfg(not(feature = "library"))]
 const FOREIGN: Implementation = second::compare::OURS;
 
+/// What the other side is.
+const SIDE: &str = if cfg!(feature = "library") { "the library" } else { "itself" };
+
 /// Runs the comparison; fails on a difference and on a pair that was not met.
 fn main() -> ExitCode {
     let arguments: Vec<String> = env::args().skip(1).collect();
@@ -53,7 +56,7 @@ fn main() -> ExitCode {
     match compare(FOREIGN, seed, count) {
         Ok(met) => report(&met, seed, count, begin.elapsed().as_secs()),
         Err(difference) => {
-            println!("DIFFERENT, seed {seed}, {}", difference.text);
+            println!("DIFFERENT from {SIDE}, seed {seed}, {}", difference.text);
             if let Some(file) = arguments.get(2)
                 && let Err(error) = fs::write(file, &difference.before)
             {
@@ -74,7 +77,7 @@ fn report(met: &Met, seed: u64, count: u64, seconds: u64) -> ExitCode {
         println!("{fault}");
     }
     println!(
-        "seed {seed}, {count} calls, {seconds} s: no difference, {} faults of the list",
+        "compared with {SIDE}, seed {seed}, {count} calls, {seconds} s: no difference, {} faults of the list",
         faults.len()
     );
     if faults.is_empty() { ExitCode::SUCCESS } else { ExitCode::FAILURE }
