@@ -3,13 +3,28 @@
 use crate::dice::Dice;
 use crate::layout::{OBJECTS, PORTS, part};
 
-/// The acts' names, by code less 1; the last stands for a code that is no act.
-pub const ACTS: [&str; 11] =
-    ["MAKE", "SEND", "COPY", "DROP", "DELIVER", "HEAR", "ASK", "RETIRE", "SETTLE", "HOLD", "OTHER"];
+/// The acts' names, by code less 1.
+pub const ACTS: [&str; 10] =
+    ["MAKE", "SEND", "COPY", "DROP", "DELIVER", "HEAR", "ASK", "RETIRE", "SETTLE", "HOLD"];
+
+/// Which of A, o and B each act names, in the order of `ACTS`; last a code that is no act.
+const NAMED: [[bool; 3]; 11] = [
+    [true, false, false],
+    [true, true, true],
+    [true, true, false],
+    [true, true, false],
+    [true, false, true],
+    [true, false, true],
+    [false, true, false],
+    [false, true, false],
+    [false, false, false],
+    [true, true, false],
+    [false, false, false],
+];
 
 /// What a stretch of acts is after.
 struct Mood {
-    /// How often each act is chosen, in the order of `ACTS`.
+    /// How often each act is chosen, in the order of `NAMED`.
     weights: [usize; 11],
     /// With how many objects the stretch stays, one of these.
     objects: &'static [usize],
@@ -17,41 +32,21 @@ struct Mood {
     ports: &'static [usize],
 }
 
-/// Few or all objects.
-const SOME_OBJECTS: &[usize] = &[1, 1, 2, 4, OBJECTS];
-/// Few or all ports.
-const SOME_PORTS: &[usize] = &[2, 3, 4, PORTS];
+/// A mood of few or all objects and ports.
+const fn wide(weights: [usize; 11]) -> Mood {
+    Mood { weights, objects: &[1, 1, 2, 4, OBJECTS], ports: &[2, 3, 4, PORTS] }
+}
 
-/// The moods: anything; all objects in use; full pointer lanes; full report lanes; holdings of 200;
-/// everything delivered and heard; objects retired.
+/// The moods: anything; all objects in use; full pointer lanes; full report lanes; everything
+/// delivered and heard; objects retired; holdings of 200, for one object and two ports.
 const MOODS: [Mood; 7] = [
-    Mood {
-        weights: [5, 15, 15, 15, 15, 15, 5, 5, 3, 5, 2],
-        objects: SOME_OBJECTS,
-        ports: SOME_PORTS,
-    },
-    Mood {
-        weights: [40, 20, 10, 5, 8, 8, 2, 2, 2, 2, 2],
-        objects: SOME_OBJECTS,
-        ports: SOME_PORTS,
-    },
-    Mood { weights: [2, 60, 8, 2, 4, 14, 2, 1, 2, 3, 2], objects: SOME_OBJECTS, ports: SOME_PORTS },
-    Mood {
-        weights: [2, 12, 30, 25, 20, 1, 2, 1, 2, 3, 2],
-        objects: SOME_OBJECTS,
-        ports: SOME_PORTS,
-    },
+    wide([5, 15, 15, 15, 15, 15, 5, 5, 3, 5, 2]),
+    wide([40, 20, 10, 5, 8, 8, 2, 2, 2, 2, 2]),
+    wide([2, 60, 8, 2, 4, 14, 2, 1, 2, 3, 2]),
+    wide([2, 12, 30, 25, 20, 1, 2, 1, 2, 3, 2]),
+    wide([1, 3, 1, 10, 40, 35, 3, 3, 2, 1, 1]),
+    wide([2, 1, 0, 25, 22, 25, 5, 15, 2, 2, 1]),
     Mood { weights: [1, 12, 60, 0, 6, 32, 1, 1, 1, 2, 1], objects: &[1], ports: &[2] },
-    Mood {
-        weights: [1, 3, 1, 10, 40, 35, 3, 3, 2, 1, 1],
-        objects: SOME_OBJECTS,
-        ports: SOME_PORTS,
-    },
-    Mood {
-        weights: [2, 1, 0, 25, 22, 25, 5, 15, 2, 2, 1],
-        objects: SOME_OBJECTS,
-        ports: SOME_PORTS,
-    },
 ];
 
 /// A stretch of acts: its mood, the objects and ports it stays with, the highest number it may state.
@@ -81,7 +76,8 @@ impl Steer {
         }
     }
 
-    /// The next act: code, A, o, B. Mostly one that can be taken on this store.
+    /// The next act: code, A, o, B. Mostly one that can be taken on this store; numbers that it
+    /// does not name are often ones that no act could take.
     pub fn next(&self, store: &[u8], dice: &mut Dice) -> [u32; 4] {
         let act = self.act(dice);
         let code = if act < 10 { act as u32 + 1 } else { self.no_act(dice) };
@@ -94,16 +90,12 @@ impl Steer {
             5 => self.lane(store, part::REPORTS, part::REPORT_LANE, dice),
             _ => (a, self.another(a, dice)),
         };
-        let [a, o, b] = [a as u32, o as u32, b as u32];
-        let [a, o, b] = match act {
-            0 => [a, self.ignored(o, dice), self.ignored(b, dice)],
-            2 | 3 | 9 => [a, o, self.ignored(b, dice)],
-            4 | 5 => [a, self.ignored(o, dice), b],
-            6 | 7 => [self.ignored(a, dice), o, self.ignored(b, dice)],
-            8 => [self.ignored(a, dice), self.ignored(o, dice), self.ignored(b, dice)],
-            _ => [a, o, b],
-        };
-        let mut numbers = [code, a, o, b];
+        let mut numbers = [code, a as u32, o as u32, b as u32];
+        for (number, named) in numbers[1..].iter_mut().zip(NAMED[act]) {
+            if !named && dice.once_in(2) {
+                *number = self.odd(*number, dice);
+            }
+        }
         let mut seldom = 10;
         while dice.once_in(seldom) {
             let at = dice.below(4);
@@ -116,7 +108,7 @@ impl Steer {
         numbers
     }
 
-    /// An act's place in `ACTS`, by the mood's weights.
+    /// An act's place in `NAMED`, by the mood's weights.
     fn act(&self, dice: &mut Dice) -> usize {
         let mut left = dice.below(self.weights.iter().sum());
         let mut act = 0;
@@ -130,11 +122,6 @@ impl Steer {
     /// A code that is no act.
     fn no_act(&self, dice: &mut Dice) -> u32 {
         if dice.once_in(2) { 0 } else { self.odd(11, dice).max(11) }
-    }
-
-    /// A number that the act does not name: often one that no act could take.
-    fn ignored(&self, number: u32, dice: &mut Dice) -> u32 {
-        if dice.once_in(2) { number } else { self.odd(number, dice) }
     }
 
     /// A number near a limit, or the valid one with higher bits added.
