@@ -1,4 +1,4 @@
-//! The lent store of document 01: its limits, its parts, and a machine read from it or written to it.
+//! The lent store of document 01: its limits and parts, and a machine read from it or written out.
 
 /// Ports are 0 to 7.
 pub const PORTS: usize = 8;
