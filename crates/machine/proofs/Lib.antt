@@ -9,3 +9,4 @@ pub mod Kept
 pub mod Heard
 pub mod KeptActs
 pub mod KeptHear
+pub mod KeptObjects

@@ -1,11 +1,12 @@
 -- What it says that a rule does not apply, rule by rule.
 -- Assumes nothing.
 use mathlib.Core.Path.{_≡_, refl, sym}
-use mathlib.Core.Bool.{Bool, true, false, cond, not, _&&_, _||_, true≢false}
+use mathlib.Core.Bool.{Bool, true, false, cond, not, _&&_, true≢false}
 use mathlib.Core.List.{List}
 use Prim.Native.Nat.{ℕ, _+_, _<_, _≤_}
 use lib.Dec.{leb, eqb}
 use borrow.Author.Tests.{leb-false, ltb-false, eqb-false, ne-eqb}
+use Rattle.books.proofs.Booleans.{left-false, right-false}
 use Rattle.books.specs.Books.{objectLimit, holdingLimit}
 use Rattle.lanes.specs.Lane.{pointerPlaces, reportPlaces, count}
 use Rattle.store.specs.Layout.{pointers, reports, read}
@@ -13,14 +14,6 @@ use Rattle.store.specs.Store.{objectByte, home, heldOf, onWay}
 use Rattle.machine.specs.Acts.{Act, rowOf, is, HEAR}
 use Rattle.machine.specs.Effects.{lowestFree, eventIn}
 use Rattle.machine.specs.Machine.{standing, rule}
-
-left-false : (a b : Bool) → (a || b) ≡ false → a ≡ false
-left-false true b e = e
-left-false false b e = refl
-
-right-false : (a b : Bool) → (a || b) ≡ false → b ≡ false
-right-false true b e = absurd (true≢false e)
-right-false false b e = e
 
 named-false : (a b : Bool) → a ≡ true → (a && b) ≡ false → b ≡ false
 named-false true b p e = e
