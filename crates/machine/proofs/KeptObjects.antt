@@ -28,7 +28,7 @@ use Rattle.machine.specs.Effects.{owned, lowestFree, happens, after}
 use Rattle.machine.specs.Machine.{rule, standing}
 use Rattle.machine.proofs.Firsts.{NoneOf}
 use Rattle.machine.proofs.Passed.{passed-A, passed-4, passed-5, passed-12, passed-13}
-use Rattle.machine.proofs.Fits.{noneHolds, noPointer, noReport, retireFits}
+use Rattle.machine.specs.Fits.{noneHolds, noPointer, noReport, retireFits}
 use Rattle.machine.proofs.Kept.{happens-kept}
 use Rattle.machine.proofs.KeptActs.{proper-at}
 

@@ -10,3 +10,4 @@ pub mod Heard
 pub mod KeptActs
 pub mod KeptHear
 pub mod KeptObjects
+pub mod Decided
