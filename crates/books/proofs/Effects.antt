@@ -12,7 +12,7 @@ use lib.ListN.{length, getD, set, length-set}
 use lib.Seq.{getD-set-same, getD-set-other}
 use borrow.Author.Tests.{le-leb, lt-leb, lt-ltb, le-ltb}
 use Rattle.paper.specs.Paper.{Kind, send, receive, create, delete}
-use Rattle.books.specs.Counters.{holdingFits, transitFits}
+use Rattle.books.specs.Fits.{holdingFits, transitFits}
 use Rattle.books.specs.Books.{holdingLimit, transitTop, transitAt, setTransit, transitEffect, holdingEffect}
 
 -- one up is at most m where it was below m

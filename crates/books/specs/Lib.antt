@@ -1,3 +1,3 @@
 pub mod Numbers
 pub mod Books
-pub mod Counters
+pub mod Fits

@@ -11,7 +11,7 @@ use lib.ListN.{length, getD}
 use borrow.Author.Tests.{eq-eqb, ne-eqb, eqb-true, eqb-false, lt-ltb}
 use Rattle.paper.specs.Paper.{Kind, send, receive, create, delete, number, Event}
 use Rattle.books.specs.Books.{objectLimit, transitTop, transitEffect, holdingEffect}
-use Rattle.books.specs.Counters.{holdingFits, transitFits}
+use Rattle.books.specs.Fits.{holdingFits, transitFits}
 use Rattle.books.proofs.Effects.{length-holding}
 use Rattle.lanes.specs.Lane.{reportWidth, reportPlaces, count, added}
 use Rattle.lanes.proofs.Lane.{means-lane, length-added, added-formed}

@@ -3,10 +3,8 @@ pub mod Judged
 pub mod Outcomes
 pub mod Refusals
 pub mod Rules
-pub mod Hold
 pub mod Passed
 pub mod Kept
-pub mod Heard
 pub mod KeptActs
 pub mod KeptHear
 pub mod KeptObjects

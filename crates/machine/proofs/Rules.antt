@@ -8,10 +8,7 @@ use borrow.Author.Tests.{le-leb, lt-leb, eq-eqb, ne-eqb}
 use Rattle.books.specs.Books.{objectLimit}
 use Rattle.store.specs.Store.{objectByte}
 use Rattle.machine.specs.Acts.{Act, rowOf}
-use Rattle.stretches.specs.Stretches.{Lent}
-use Rattle.store.proofs.Formed.{formed-means}
 use Rattle.machine.specs.Machine.{rule}
-use Rattle.machine.specs.Ready.{Ready}
 
 module _ (n : ℕ) (a : Act) (s : List ℕ) where
   -- 3, of an act that names port A alone
@@ -40,7 +37,3 @@ module _ (n : ℕ) (a : Act) (s : List ℕ) where
   pub object-used : (objectByte n (a .o) s ≡ 0 → ⊥) → rule n a s 5 ≡ false
   unfolding rule
   object-used e = rw (ne-eqb (objectByte n (a .o) s) 0 e)
-
--- a store that is ready has been lent
-pub lent : (n : ℕ) (s : List ℕ) → Ready n s → Lent n s
-lent n s r = record { few = r .few; sized = formed-means n s (r .formed) .sized }

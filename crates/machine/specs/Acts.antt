@@ -1,4 +1,4 @@
--- Document 01's table of acts, the event that each act is, and the answers.
+-- Document 01's table of acts, the event that each act is, and what an act gives.
 -- Assumes nothing.
 use mathlib.Core.Bool.{Bool, true, false, cond}
 use mathlib.Core.List.{List, [], _∷_}
@@ -6,8 +6,6 @@ use Prim.Native.Nat.{ℕ}
 use lib.Dec.{eqb}
 use lib.ListN.{getD}
 use Rattle.paper.specs.Paper.{Kind, send, receive, create, delete, Event}
-use Rattle.machine.specs.declared.Reply.{Reply}
-use Rattle.machine.specs.declared.Reply.the-variants.{Taken, Refused, Against}
 
 -- an act is four numbers
 pub record Act : Type 0 where
@@ -93,9 +91,3 @@ pub record Outcome : Type 0 where
 
 abbrev pub gives : ℕ → ℕ → List ℕ → Outcome
 gives k v s = record { answer = record { refusal = k; value = v }; bytes = s }
-
--- the numbers of each of the code's replies
-abbrev pub numbers : Reply → Answer
-numbers (Taken v) = record { refusal = 0; value = v }
-numbers (Refused k) = record { refusal = k; value = 0 }
-numbers (Against p) = record { refusal = 13; value = p }

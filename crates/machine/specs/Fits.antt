@@ -9,7 +9,7 @@ use lib.ListN.{getD}
 use Rattle.paper.specs.Paper.{Event}
 use Rattle.books.specs.Numbers.{every}
 use Rattle.books.specs.Books.{objectLimit}
-use Rattle.books.specs.Counters.{holdingFits, transitFits}
+use Rattle.books.specs.Fits.{holdingFits, transitFits}
 use Rattle.lanes.specs.Lane.{pointerWidth, reportWidth, count, entry}
 use Rattle.store.specs.Layout.{pointers, reports, read}
 use Rattle.store.specs.Store.{objectByte, home, heldOf, heardOf, transitOf}

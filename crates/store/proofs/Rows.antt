@@ -12,7 +12,7 @@ use borrow.Author.Tests.{eq-eqb, ne-eqb, eqb-true}
 use Rattle.paper.specs.Paper.{Kind}
 use Rattle.books.specs.Books.{objectLimit, holdingLimit, transitTop, transitAt, transitEffect, holdingEffect}
 use Rattle.books.proofs.Numbers.{every-all, every-but}
-use Rattle.books.specs.Counters.{holdingFits, transitFits}
+use Rattle.books.specs.Fits.{holdingFits, transitFits}
 use Rattle.books.proofs.Effects.{length-holding, holding-other, holding-fits, holding-alike, length-transit, transit-other, transit-fits}
 use Rattle.store.specs.Layout.{objects, held, heard, transit, read, edit}
 use Rattle.store.specs.Store.{holdingFormed, transitFormed, objectByte, heldOf, heardOf, transitOf, wellFormed}

@@ -5,12 +5,13 @@ ghost use mathlib.Core.Bool.{true};
 ghost use Prim.Native.Nat.{_+_, _*_, _≤_, _<_};
 ghost use lib.ListN.{getD, set};
 ghost use Rattle.books.specs.Books.{objectLimit, holdingEffect, transitEffect, transitTop};
-ghost use Rattle.books.specs.Counters.{kindOf, holdingFits, transitFits};
+ghost use Rattle.books.specs.Fits.{holdingFits, transitFits};
+ghost use Rattle.counters.specs.Counters.{kindOf};
 ghost use Rattle.lanes.specs.Lane.{pointerWidth, reportWidth, count, entry};
 ghost use Rattle.store.specs.Layout.{objects, held, heard, transit, pointers, reports, read, edit};
 ghost use Rattle.store.specs.Store.{objectByte, heldOf, heardOf, transitOf, onWay};
 ghost use Rattle.stretches.specs.Stretches.{Few, Lent, Begins, Numbered};
-use books::Event;
+use counters::Event;
 
 const OBJECTS: usize = 64; // the bytes of a row of holdings
 
@@ -95,7 +96,7 @@ pub fn transit_of(store: &[u8], n: usize, p: usize, o: usize) -> u16
 {
     let at = transit_place(n, p);
     let end = at + TRANSITS;
-    books::transit_at(&store[at..end], o)
+    counters::transit_at(&store[at..end], o)
 }
 
 // The entries of the pointer lane from port a to port b, and of the report lane.
@@ -143,7 +144,7 @@ pub fn held_fits(store: &[u8], n: usize, p: usize, o: usize, e: Event) -> bool
 {
     let at = held_place(n, p);
     let end = at + OBJECTS;
-    books::holding_fits(e, &store[at..end], o)
+    counters::holding_fits(e, &store[at..end], o)
 }
 
 pub fn heard_fits(store: &[u8], n: usize, p: usize, o: usize, e: Event) -> bool
@@ -152,7 +153,7 @@ pub fn heard_fits(store: &[u8], n: usize, p: usize, o: usize, e: Event) -> bool
 {
     let at = heard_place(n, p);
     let end = at + OBJECTS;
-    books::holding_fits(e, &store[at..end], o)
+    counters::holding_fits(e, &store[at..end], o)
 }
 
 pub fn transit_fits(store: &[u8], n: usize, p: usize, o: usize, e: Event) -> bool
@@ -161,7 +162,7 @@ pub fn transit_fits(store: &[u8], n: usize, p: usize, o: usize, e: Event) -> boo
 {
     let at = transit_place(n, p);
     let end = at + TRANSITS;
-    books::transit_fits(e, &store[at..end], o, n)
+    counters::transit_fits(e, &store[at..end], o, n)
 }
 
 // An event about o: what it does to port p's true holdings as it happens, and to its heard holdings and heard transits as it is heard.
@@ -172,7 +173,7 @@ pub fn change_held(store: &mut [u8], n: usize, p: usize, o: usize, e: Event)
 {
     let at = held_place(n, p);
     let end = at + OBJECTS;
-    books::holding_effect(e, &mut store[at..end], o);
+    counters::holding_effect(e, &mut store[at..end], o);
 }
 
 pub fn change_heard(store: &mut [u8], n: usize, p: usize, o: usize, e: Event)
@@ -182,7 +183,7 @@ pub fn change_heard(store: &mut [u8], n: usize, p: usize, o: usize, e: Event)
 {
     let at = heard_place(n, p);
     let end = at + OBJECTS;
-    books::holding_effect(e, &mut store[at..end], o);
+    counters::holding_effect(e, &mut store[at..end], o);
 }
 
 pub fn change_transit(store: &mut [u8], n: usize, p: usize, o: usize, e: Event)
@@ -192,5 +193,5 @@ pub fn change_transit(store: &mut [u8], n: usize, p: usize, o: usize, e: Event)
 {
     let at = transit_place(n, p);
     let end = at + TRANSITS;
-    books::transit_effect(e, &mut store[at..end], o, n);
+    counters::transit_effect(e, &mut store[at..end], o, n);
 }

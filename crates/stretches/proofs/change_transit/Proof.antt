@@ -3,7 +3,7 @@ use mathlib.Core.Path.{refl}
 use native.Mathlib.Omega.{arith}
 use borrow.Author.Needs.{needs}
 use Rattle.books.specs.Books.{transitEffect}
-use Rattle.books.specs.Counters.{kindOf}
+use Rattle.counters.specs.Counters.{kindOf}
 use Rattle.stretches.proofs.Places.{bytes-long, part-is, back-is}
 use Rattle.stretches.proofs.change_transit.Statement.{statement}
 use Rattle.stretches.proofs.change_transit.Tie as tie
