@@ -141,7 +141,8 @@ module _ (n : ℕ) (few : transitTop n < 65535) (s : List ℕ) (formed : wellFor
       → wellFormed n (after n (act DELIVER A o B) s) ≡ happensFits n (event receive (oldestPointer n A B s) B) s
   unfolding after
   deliver-kept A o B f =
-      then-happens A B ha hb (taken pointerWidth) keeps formed0 (event receive (oldestPointer n A B s) B) (proper-at n receive (oldestPointer n A B s) B hb low (omega arith)) used (passed-11 n (act DELIVER A o B) s (f .1 .1 .1 .1 .0))
+      then-happens A B ha hb (taken pointerWidth) keeps formed0 (event receive (oldestPointer n A B s) B)
+      (proper-at n receive (oldestPointer n A B s) B hb low (omega arith)) used (passed-11 n (act DELIVER A o B) s (f .1 .1 .1 .1 .0))
     where
       ha : A < n
       ha = passed-A n (act DELIVER A o B) s refl (f .1 .0)

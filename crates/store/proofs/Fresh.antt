@@ -149,8 +149,14 @@ module _ (n : ℕ) where
     where
       byte : (i j : ℕ) → i < long n (transit p) → j ≡ 2 * (objectLimit * p) + i → getD (read n (transit p) (fresh n)) i 0 ≡ getD (words (objectLimit * n) (transitZero n)) j 0
       byte i j l e =
-          let q : long n (transit p) * (sectionAt n (transit p .part) .columns * p + 0) + i ≡ j = omega arith in
-          rw (fresh-read (transit p) (port-inside n p h), getD-take (long n (transit p)) (drop (long n (transit p) * (sectionAt n (transit p .part) .columns * p + 0)) (words (objectLimit * n) (transitZero n))) i 0 l, getD-drop, q)
+          let at = long n (transit p) * (sectionAt n (transit p .part) .columns * p + 0) in
+          let q : at + i ≡ j = omega arith in
+          rw (
+            fresh-read (transit p) (port-inside n p h),
+            getD-take (long n (transit p)) (drop at (words (objectLimit * n) (transitZero n))) i 0 l,
+            getD-drop at (words (objectLimit * n) (transitZero n)) i 0,
+            q,
+          )
 
   pub fresh-formed : wellFormed n (fresh n) ≡ true
   fresh-formed = means-formed n (fresh n) (record {

@@ -137,7 +137,8 @@ module _ (ks : List Section) where
       rw w
       (elim (ℕ-discrete (c .row) (d .row)) [
         | yes q ↦ rw q (⊎-elim (λ h. inl (omega arith)) (λ h. inr (omega arith)) (either-below (c .column) (d .column) (ne q)))
-        | no q ↦ ⊎-elim (λ h. inl (omega (arith, next-row (sectionOf ks (c .part) .columns) (c .row) (d .row) h))) (λ h. inr (omega (arith, next-row (sectionOf ks (c .part) .columns) (d .row) (c .row) h)))
+        | no q ↦ ⊎-elim (λ h. inl (omega (arith, next-row (sectionOf ks (c .part) .columns) (c .row) (d .row) h)))
+            (λ h. inr (omega (arith, next-row (sectionOf ks (c .part) .columns) (d .row) (c .row) h)))
             (either-below (c .row) (d .row) q)
       ])
 

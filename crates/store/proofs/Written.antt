@@ -118,19 +118,12 @@ module _ (n : ℕ) where
         (λ j k d. rw (same-objects, f j d))
         ∙ rw same-objects
 
-    pointers-but : (a b : ℕ) → a < n → b < n → pointersIn v ≡ true → ((i j : ℕ) → (i ≡ a → ¬ (j ≡ b)) → u (pointers i j) ≡ v (pointers i j))
-        → pointersIn u ≡ pointerLaneRight a b (v objects) (u (pointers a b))
-    unfolding pointersIn
-    pointers-but a b ha hb e f =
-        every-but-pair (λ i j. pointerLaneRight i j (v objects) (v (pointers i j))) (λ i j. pointerLaneRight i j (u objects) (u (pointers i j))) n a b ha hb e
-        (λ i j d. rw (same-objects, f i j d))
-        ∙ rw same-objects
-
-    reports-but : (a b : ℕ) → a < n → b < n → reportsIn v ≡ true → ((i j : ℕ) → (i ≡ a → ¬ (j ≡ b)) → u (reports i j) ≡ v (reports i j))
-        → reportsIn u ≡ reportLaneRight a b (v objects) (u (reports a b))
-    unfolding reportsIn
-    reports-but a b ha hb e f =
-        every-but-pair (λ i j. reportLaneRight i j (v objects) (v (reports i j))) (λ i j. reportLaneRight i j (u objects) (u (reports i j))) n a b ha hb e
+    -- lanes of either kind
+    lanes-but : (lane : ℕ → ℕ → Stretch) (right : ℕ → ℕ → List ℕ → List ℕ → Bool) (a b : ℕ) → a < n → b < n
+        → every n (λ i. every n (λ j. right i j (v objects) (v (lane i j)))) ≡ true → ((i j : ℕ) → (i ≡ a → ¬ (j ≡ b)) → u (lane i j) ≡ v (lane i j))
+        → every n (λ i. every n (λ j. right i j (u objects) (u (lane i j)))) ≡ right a b (v objects) (u (lane a b))
+    lanes-but lane right a b ha hb e f =
+        every-but-pair (λ i j. right i j (v objects) (v (lane i j))) (λ i j. right i j (u objects) (u (lane i j))) n a b ha hb e
         (λ i j d. rw (same-objects, f i j d))
         ∙ rw same-objects
 
@@ -175,8 +168,18 @@ module _ (n : ℕ) where
               × (cond (eqb p j) (k (view n s (heard p))) (view n s (heard j)) ≡ view n s (heard j))
           other j d = (rw (ne-eqb p j (λ q. d (sym q))), rw (ne-eqb p j (λ q. d (sym q))))
 
+    -- any stretch replaced
+    edited : (c : Stretch) → inside n c ≡ true → (f : List ℕ → List ℕ) → length (f (read n c s)) ≡ long n c
+        → wellFormed n (edit n c f s) ≡ formedIn (upd n c (f (read n c s)) (view n s))
+    edited c i f keeps =
+        let q = view-in n c s i in
+        formed-viewed _ _ (edit-viewed n c f s (view n s) now i (rw q keeps)) ∙ ap (λ (r : List ℕ). formedIn (upd n c (f r) (view n s))) q
+
     -- A LANE from a to b is replaced
     module _ (a b : ℕ) (ha : a < n) (hb : b < n) (f : List ℕ → List ℕ) where
+      this-lane : (x y : List ℕ) → cond (eqb b b && eqb a a) x y ≡ x
+      this-lane x y = rw (eq-eqb b b refl, eq-eqb a a refl)
+
       other-lane : (i j : ℕ) → (i ≡ a → ¬ (j ≡ b)) → (x y : List ℕ) → cond (eqb b j && eqb a i) x y ≡ y
       other-lane i j d x y = go (eqb a i) refl
         where
@@ -186,43 +189,18 @@ module _ (n : ℕ) where
 
       pub pointers-written : length (f (read n (pointers a b) s)) ≡ long n (pointers a b)
           → wellFormed n (edit n (pointers a b) f s) ≡ pointerLaneRight a b (read n objects s) (f (read n (pointers a b) s))
-      unfolding upd homesIn holdingsIn transitsIn reportsIn
+      unfolding upd homesIn holdingsIn transitsIn pointersIn reportsIn
       pointers-written keeps =
-          let i = lane-inside n a b ha hb in
-          let v = view n s in
-          let v1 = upd n (pointers a b) (f (v (pointers a b))) v in
-          let q : v (pointers a b) ≡ read n (pointers a b) s = view-in n (pointers a b) s i in
-          formed-viewed _ v1 (edit-viewed n (pointers a b) f s v now i (rw q keeps))
-          ∙ rw (
-            is .homesAre,
-            is .holdingsAre,
-            is .transitsAre,
-            is .reportsAre,
-            and-true (pointersIn v1),
-            pointers-but v1 v refl a b ha hb (is .pointersAre) (λ x y d. other-lane x y d _ _),
-            eq-eqb a a refl,
-            eq-eqb b b refl,
-            q,
-            view-in n objects s refl,
-          )
+          let u = upd n (pointers a b) (f (read n (pointers a b) s)) (view n s) in
+          edited (pointers a b) (lane-inside n a b ha hb) f keeps
+          ∙ rw (is .homesAre, is .holdingsAre, is .transitsAre, is .reportsAre, and-true (pointersIn u))
+          (lanes-but u (view n s) refl pointers pointerLaneRight a b ha hb (is .pointersAre) (λ x y d. other-lane x y d _ _) ∙ rw (this-lane, view-in n objects s refl))
 
       pub reports-written : length (f (read n (reports a b) s)) ≡ long n (reports a b)
           → wellFormed n (edit n (reports a b) f s) ≡ reportLaneRight a b (read n objects s) (f (read n (reports a b) s))
-      unfolding upd homesIn holdingsIn transitsIn pointersIn
+      unfolding upd homesIn holdingsIn transitsIn pointersIn reportsIn
       reports-written keeps =
-          let i = lane-inside n a b ha hb in
-          let v = view n s in
-          let v1 = upd n (reports a b) (f (v (reports a b))) v in
-          let q : v (reports a b) ≡ read n (reports a b) s = view-in n (reports a b) s i in
-          formed-viewed _ v1 (edit-viewed n (reports a b) f s v now i (rw q keeps))
-          ∙ rw (
-            is .homesAre,
-            is .holdingsAre,
-            is .transitsAre,
-            is .pointersAre,
-            reports-but v1 v refl a b ha hb (is .reportsAre) (λ x y d. other-lane x y d _ _),
-            eq-eqb a a refl,
-            eq-eqb b b refl,
-            q,
-            view-in n objects s refl,
-          )
+          let u = upd n (reports a b) (f (read n (reports a b) s)) (view n s) in
+          edited (reports a b) (lane-inside n a b ha hb) f keeps
+          ∙ rw (is .homesAre, is .holdingsAre, is .transitsAre, is .pointersAre)
+          (lanes-but u (view n s) refl reports reportLaneRight a b ha hb (is .reportsAre) (λ x y d. other-lane x y d _ _) ∙ rw (this-lane, view-in n objects s refl))
