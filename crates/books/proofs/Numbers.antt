@@ -48,6 +48,11 @@ unfolding every
 every-ext p q zero f = refl
 every-ext p q (suc n) f = rw (every-ext p q n (λ i h. f i (omega arith)), f n (omega arith))
 
+-- one number more
+pub sum-more : (f : ℕ → ℕ) (i : ℕ) → sumTo (i + 1) f ≡ sumTo i f + f i
+unfolding sumTo
+sum-more f i = rw add-one
+
 -- sums of what agrees below n
 pub sum-ext : (f g : ℕ → ℕ) (n : ℕ) → ((i : ℕ) → i < n → f i ≡ g i) → sumTo n f ≡ sumTo n g
 unfolding sumTo

@@ -4,7 +4,8 @@ use mathlib.Core.Path.{_≡_}
 use mathlib.Core.List.{List}
 use Prim.Native.Nat.{ℕ, _+_, _*_, _≤_, _<_}
 use lib.ListN.{length}
-use Rattle.store.specs.Layout.{Stretch, size, long, place}
+use Rattle.lanes.specs.Lane.{pointerPlaces, count}
+use Rattle.store.specs.Layout.{Stretch, size, long, place, pointers, read}
 
 -- a number of ports for which every place of the store is far from a word's limit
 abbrev pub Few : ℕ → Type 0
@@ -25,3 +26,7 @@ pub record Numbered (n a b r : ℕ) : Type 0 where
 pub record Begins (n : ℕ) (c : Stretch) (r : ℕ) : Type 0 where
   pub at : r ≡ place n c
   pub ends : r + long n c ≤ size n
+
+-- no pointer lane to port p is longer than its places
+abbrev pub LanesLow : ℕ → ℕ → List ℕ → Type 0
+LanesLow n p s = (a : ℕ) → a < n → count (read n (pointers a p) s) ≤ pointerPlaces

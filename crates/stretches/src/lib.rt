@@ -2,16 +2,19 @@
 // it. Its part of the store is lent to the function that knows it.
 ghost use mathlib.Core.Path.{_≡_};
 ghost use mathlib.Core.Bool.{true};
+ghost use mathlib.Core.List.{[], _∷_};
 ghost use Prim.Native.Nat.{_+_, _*_, _≤_, _<_};
 ghost use lib.ListN.{getD, set};
 ghost use Rattle.books.specs.Books.{objectLimit, holdingEffect, transitEffect, transitTop};
 ghost use Rattle.books.specs.Fits.{holdingFits, transitFits};
 ghost use Rattle.counters.specs.Counters.{kindOf};
-ghost use Rattle.lanes.specs.Lane.{pointerWidth, reportWidth, count, entry};
+ghost use Rattle.lanes.specs.Lane.{pointerWidth, reportWidth, pointerPlaces, reportPlaces, count, entry, pointersTo, added, taken};
+ghost use Rattle.cursors.specs.Cursor.{cursorOf, entryOf, Entered, Roomy};
 ghost use Rattle.store.specs.Layout.{objects, held, heard, transit, pointers, reports, read, edit};
 ghost use Rattle.store.specs.Store.{objectByte, heldOf, heardOf, transitOf, onWay};
-ghost use Rattle.stretches.specs.Stretches.{Few, Lent, Begins, Numbered};
+ghost use Rattle.stretches.specs.Stretches.{Few, Lent, Begins, Numbered, LanesLow};
 use counters::Event;
+use cursors::Cursor;
 
 const OBJECTS: usize = 64; // the bytes of a row of holdings
 
@@ -129,6 +132,27 @@ pub fn oldest_report(store: &[u8], n: usize, a: usize, b: usize, i: usize) -> u8
     store[reports_place(n, a, b) + 1 + i]
 }
 
+// The pointers to o on the lane from port a to port b, and on all lanes to port p.
+pub fn on_lane(store: &[u8], n: usize, a: usize, b: usize, o: u8) -> usize
+    requires { ⌜ Lent n (now store) × ((a < n) × ((b < n) × (count (read n (pointers a b) (now store)) ≤ pointerPlaces))) ⌝ }
+    ensures { λ r. ⌜ (r ≡ pointersTo o (read n (pointers a b) (now (store .entry)))) × (r ≤ pointerPlaces) ⌝ }
+{
+    let at = pointers_place(n, a, b);
+    let end = at + POINTER_LANE;
+    cursors::pointers_to(&store[at..end], o)
+}
+
+pub fn on_way(store: &[u8], n: usize, p: usize, o: u8) -> usize
+    requires { ⌜ Lent n (now store) × ((p < n) × LanesLow n p (now store)) ⌝ }
+    ensures { λ r. ⌜ (r ≡ onWay n p o (now (store .entry))) × (r ≤ pointerPlaces * n) ⌝ }
+{
+    let mut t: usize = 0;
+    for a in 0..n {
+        t += on_lane(store, n, a, p, o);
+    }
+    t
+}
+
 // o's object byte becomes b.
 pub fn set_object(store: &mut [u8], n: usize, o: usize, b: u8)
     requires { ⌜ Lent n (now store) × (o < objectLimit) ⌝ }
@@ -194,4 +218,59 @@ pub fn change_transit(store: &mut [u8], n: usize, p: usize, o: usize, e: Event)
     let at = transit_place(n, p);
     let end = at + TRANSITS;
     counters::transit_effect(e, &mut store[at..end], o, n);
+}
+
+// An entry added to a lane, and the oldest taken from it, at its cursor.
+fn add_entry(lane: &mut [u8], w: usize, first: u8, second: u8)
+    requires { ⌜ Roomy w (cursorOf (now lane)) (now lane) ⌝ }
+    ensures { λ _. ⌜ now (lane .exit) ≡ added w (entryOf w first second) (now (lane .entry)) ⌝ }
+{
+    let c = Cursor::of(lane);
+    c.added(lane, w, first, second);
+}
+
+fn take_entry(lane: &mut [u8], w: usize)
+    requires { ⌜ Entered w (cursorOf (now lane)) (now lane) ⌝ }
+    ensures { λ _. ⌜ now (lane .exit) ≡ taken w (now (lane .entry)) ⌝ }
+{
+    let c = Cursor::of(lane);
+    c.taken(lane, w);
+}
+
+// Pointer o, or a report of two bytes, added to the lane from port a to port b.
+pub fn add_pointer(store: &mut [u8], n: usize, a: usize, b: usize, o: u8)
+    requires { ⌜ Lent n (now store) × ((a < n) × ((b < n) × (count (read n (pointers a b) (now store)) < pointerPlaces))) ⌝ }
+    ensures { λ _. ⌜ now (store .exit) ≡ edit n (pointers a b) (added pointerWidth (o ∷ [])) (now (store .entry)) ⌝ }
+{
+    let at = pointers_place(n, a, b);
+    let end = at + POINTER_LANE;
+    add_entry(&mut store[at..end], 1, o, 0);
+}
+
+pub fn add_report(store: &mut [u8], n: usize, a: usize, b: usize, first: u8, second: u8)
+    requires { ⌜ Lent n (now store) × ((a < n) × ((b < n) × (count (read n (reports a b) (now store)) < reportPlaces))) ⌝ }
+    ensures { λ _. ⌜ now (store .exit) ≡ edit n (reports a b) (added reportWidth (first ∷ second ∷ [])) (now (store .entry)) ⌝ }
+{
+    let at = reports_place(n, a, b);
+    let end = at + REPORT_LANE;
+    add_entry(&mut store[at..end], 2, first, second);
+}
+
+// The oldest pointer, or the oldest report, taken from the lane from port a to port b.
+pub fn take_pointer(store: &mut [u8], n: usize, a: usize, b: usize)
+    requires { ⌜ Lent n (now store) × ((a < n) × ((b < n) × (0 < count (read n (pointers a b) (now store))))) ⌝ }
+    ensures { λ _. ⌜ now (store .exit) ≡ edit n (pointers a b) (taken pointerWidth) (now (store .entry)) ⌝ }
+{
+    let at = pointers_place(n, a, b);
+    let end = at + POINTER_LANE;
+    take_entry(&mut store[at..end], 1);
+}
+
+pub fn take_report(store: &mut [u8], n: usize, a: usize, b: usize)
+    requires { ⌜ Lent n (now store) × ((a < n) × ((b < n) × (0 < count (read n (reports a b) (now store))))) ⌝ }
+    ensures { λ _. ⌜ now (store .exit) ≡ edit n (reports a b) (taken reportWidth) (now (store .entry)) ⌝ }
+{
+    let at = reports_place(n, a, b);
+    let end = at + REPORT_LANE;
+    take_entry(&mut store[at..end], 2);
 }
