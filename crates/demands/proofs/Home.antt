@@ -1,0 +1,104 @@
+-- One home: what its books, the reports on the way to it and the pointers to its objects have to do with one another, and that an event
+-- and a hearing keep that. There is one order of the unheard reports, all of the home's objects together and each lane's own order kept,
+-- in which no receipt takes a transit below 0; a port's holdings depend on its own lane alone.
+-- Assumes nothing.
+use mathlib.Core.Path.{_≡_, refl, sym, ap, _∙_}
+use mathlib.Core.List.{List, [], _∷_, _++_, nil≢cons}
+use Prim.Native.Nat.{ℕ, _+_, _≤_, _<_}
+use native.Mathlib.Omega.{arith}
+use native.Mathlib.Decide.{ℕ-discrete}
+use Rattle.paper.specs.Paper.{send, receive, create, delete, Event}
+use Rattle.books.specs.Books.{holdingLimit, transitZero}
+use Rattle.demands.proofs.Lists.{All, all-nil, all-snoc, all-head, all-map, all-both, all-those, total, total-snoc}
+use Rattle.demands.proofs.Order.{from, from-at, from-snoc, from-skip, front-at, without, without-same, without-other, all-without, total-without}
+use Rattle.demands.proofs.Order.{Count, Fine, fine-more, fine-snoc, fine-none, fine-head, fine-tail, fine-early}
+use Rattle.demands.proofs.Events.{one, gain, loss, Proper, Holder, transitCount, holderCount, roomCount, at-other, gain-le, receive-no-send, one-object, one-names}
+use Rattle.demands.proofs.Model.{M, onWay, Hears, Happens, Heard}
+
+-- the holding of o that the home has heard that X has, the reports of X's lane to h counted in, is X's true holding
+abbrev pub Holdings : ℕ → ℕ → ℕ → M → Type 0
+Holdings h X o m = m .heard X o + total (gain o X) (m .reports X h) ≡ m .held X o + total (loss o X) (m .reports X h)
+
+module _ (n h : ℕ) where
+  pub record Home (m : M) : Type 0 where
+    pub order : List Event
+    pub lanes : (X : ℕ) → m .reports X h ≡ from X order
+    pub quiet : m .reports h h ≡ []
+    pub named : All (λ e. m .owner (e .object) ≡ h + 1) order
+    pub proper : All (Proper n) order
+    pub ear : (X o : ℕ) → m .owner o ≡ h + 1 → m .heard X o ≤ holdingLimit
+    pub holder : (X o : ℕ) → m .owner o ≡ h + 1 → Fine (holderCount o X) (m .heard X o) 0 (m .reports X h)
+    pub room : (X o : ℕ) → m .owner o ≡ h + 1 → Fine (roomCount o X) holdingLimit (m .heard X o) (m .reports X h)
+    pub holding : (X o : ℕ) → m .owner o ≡ h + 1 → Holdings h X o m
+    pub transits : (B o : ℕ) → m .owner o ≡ h + 1 → Fine (transitCount o B) (m .transit B o) (transitZero n) order
+    pub travel : (B o : ℕ) → m .owner o ≡ h + 1
+        → m .transit B o + total (one send o B) order ≡ transitZero n + total (one receive o B) order + onWay n (m .pointers) B o
+
+  -- what the home has of its own objects, and what it has heard, are one
+  pub home-hears-itself : (m : M) → Home m → (o : ℕ) → m .owner o ≡ h + 1 → m .heard h o ≡ m .held h o
+  unfolding total
+  home-hears-itself m i o w = omega (arith, rw (i .quiet) at (i .holding h o w))
+
+-- What an event asks of the model in which it happens. Away from home it is by a holder if it is no receipt; where it gains one there is
+-- room; and what is sent sets out as what is received arrives.
+pub record Can (n : ℕ) (e : Event) (m m′ : M) : Type 0 where
+  pub proper : Proper n e
+  pub able : ¬ (m .owner (e .object) ≡ e .at + 1) → Holder (e .object) e → 0 < m .held (e .at) (e .object)
+  pub fits : (p o : ℕ) → 0 < gain o p e → m .held p o < holdingLimit
+  pub moves : (p o : ℕ) → onWay n (m′ .pointers) p o + one receive o p e ≡ onWay n (m .pointers) p o + one send o p e
+  pub happens : Happens e m m′
+
+module _ (n h : ℕ) (e : Event) (m m′ : M) (c : Can n e m m′) (i : Home n h m) where
+  mine : (o : ℕ) → m′ .owner o ≡ h + 1 → m .owner o ≡ h + 1
+  mine o w = sym (c .happens .owner o) ∙ w
+
+  named : All (λ f. m′ .owner (f .object) ≡ h + 1) (i .order)
+  named = all-map _ _ (i .order) (λ f w. c .happens .owner (f .object) ∙ w) (i .named)
+
+  -- the event is about an object of this home and happens away from it: it is the last of the order
+  module _ (about : m .owner (e .object) ≡ h + 1) (off : ¬ (e .at ≡ h)) where
+    deaf : ¬ (m .owner (e .object) ≡ e .at + 1)
+    deaf q = off (omega arith)
+
+    rest : (X : ℕ) → ¬ (X ≡ e .at) → m′ .reports X h ≡ m .reports X h
+    rest X d = c .happens .rest X h (λ t. d (t .0))
+
+    put : m′ .reports (e .at) h ≡ m .reports (e .at) h ++ (e ∷ [])
+    put = c .happens .put h about off
+
+    -- at X's lane: what is said of it holds if it holds of the lane with the event added, where X is the port
+    at-lane : (P : ℕ → List Event → Type 0) → P (e .at) (m .reports (e .at) h ++ (e ∷ [])) → ((X : ℕ) → ¬ (X ≡ e .at) → P X (m .reports X h))
+        → (X : ℕ) → P X (m′ .reports X h)
+    at-lane P here there X = go (ℕ-discrete X (e .at))
+      where
+        go : Dec (X ≡ e .at) → P X (m′ .reports X h)
+        go (yes q) = rw (q, put) here
+        go (no d) = rw (rest X d) (there X d)
+
+    pub away-home : Home n h m′
+    away-home = record
+      { order = i .order ++ (e ∷ [])
+      ; lanes = at-lane (λ X l. l ≡ from X (i .order ++ (e ∷ [])))
+          (rw (i .lanes (e .at)) (sym (from-snoc (e .at) (i .order) e refl)))
+          (λ X d. i .lanes X ∙ sym (from-skip X (i .order) e (λ q. d (sym q))))
+      ; quiet = rest h (λ q. off (sym q)) ∙ i .quiet
+      ; named = all-snoc _ (i .order) e named (c .happens .owner (e .object) ∙ about)
+      ; proper = all-snoc _ (i .order) e (i .proper) (c .proper)
+      ; ear = λ X o w. omega (arith, c .happens .away deaf .heard X o, i .ear X o (mine o w))
+      ; holder = λ X o w. at-lane (λ Y l. Fine (holderCount o Y) (m′ .heard Y o) 0 l)
+          (rw (c .happens .away deaf .heard (e .at) o) (fine-snoc (holderCount o (e .at)) (m .reports (e .at) h) e (m .heard (e .at) o) 0
+          (i .holder (e .at) o (mine o w)) (λ k. (let q : 0 < m .held (e .at) o = rw (k .1) at (c .able deaf (k .0, refl)) in omega (arith, i .holding (e .at) o (mine o w))))))
+          (λ Y d. rw (c .happens .away deaf .heard Y o) (i .holder Y o (mine o w))) X
+      ; room = λ X o w. at-lane (λ Y l. Fine (roomCount o Y) holdingLimit (m′ .heard Y o) l)
+          (rw (c .happens .away deaf .heard (e .at) o) (fine-snoc (roomCount o (e .at)) (m .reports (e .at) h) e holdingLimit (m .heard (e .at) o)
+          (i .room (e .at) o (mine o w)) (λ k. (let q : m .held (e .at) o < holdingLimit = c .fits (e .at) o k in omega (arith, i .holding (e .at) o (mine o w))))))
+          (λ Y d. rw (c .happens .away deaf .heard Y o) (i .room Y o (mine o w))) X
+      ; holding = λ X o w. at-lane (λ Y l. m′ .heard Y o + total (gain o Y) l ≡ m′ .held Y o + total (loss o Y) l)
+          (omega (arith, c .happens .away deaf .heard (e .at) o, c .happens .held (e .at) o, i .holding (e .at) o (mine o w)
+          , total-snoc (gain o (e .at)) (m .reports (e .at) h) e, total-snoc (loss o (e .at)) (m .reports (e .at) h) e))
+          (λ Y d. (let z = at-other n o Y e (c .proper) (λ q. d (sym q)) in omega (arith, c .happens .away deaf .heard Y o, c .happens .held Y o, i .holding Y o (mine o w), z .0, z .1, z .2))) X
+      ; transits = λ B o w. rw (c .happens .away deaf .transit B o) (fine-snoc (transitCount o B) (i .order) e (m .transit B o) (transitZero n)
+          (i .transits B o (mine o w)) (λ k. (let q : 0 < one receive o B e = k in omega (arith, i .travel B o (mine o w), c .moves B o, receive-no-send o B B e k))))
+      ; travel = λ B o w. omega (arith, i .travel B o (mine o w), c .moves B o, c .happens .away deaf .transit B o
+          , total-snoc (one send o B) (i .order) e, total-snoc (one receive o B) (i .order) e)
+      }
