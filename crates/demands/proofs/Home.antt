@@ -6,11 +6,11 @@ use mathlib.Core.Path.{_≡_, refl, sym, ap, _∙_}
 use mathlib.Core.List.{List, [], _∷_, _++_, nil≢cons}
 use Prim.Native.Nat.{ℕ, _+_, _≤_, _<_}
 use native.Mathlib.Omega.{arith}
-use native.Mathlib.Decide.{ℕ-discrete}
+use native.Mathlib.Decide.{ℕ-discrete, decLt}
 use Rattle.paper.specs.Paper.{send, receive, create, delete, Event}
 use Rattle.books.specs.Books.{holdingLimit, transitZero}
 use Rattle.demands.proofs.Lists.{All, all-nil, all-snoc, all-head, all-map, all-both, all-those, total, total-snoc}
-use Rattle.demands.proofs.Order.{from, from-at, from-snoc, from-skip, front-at, without, without-same, without-other, all-without, total-without}
+use Rattle.demands.proofs.Order.{from, from-none, from-snoc, from-skip, front-at, without, without-same, without-other, all-without, total-without}
 use Rattle.demands.proofs.Order.{Count, Fine, fine-more, fine-snoc, fine-none, fine-head, fine-tail, fine-early}
 use Rattle.demands.proofs.Events.{one, gain, loss, Proper, Holder, transitCount, holderCount, roomCount, at-other, gain-le, receive-no-send, one-object, one-names}
 use Rattle.demands.proofs.Model.{M, onWay, Hears, Happens, Heard}
@@ -102,3 +102,111 @@ module _ (n h : ℕ) (e : Event) (m m′ : M) (c : Can n e m m′) (i : Home n h
       ; travel = λ B o w. omega (arith, i .travel B o (mine o w), c .moves B o, c .happens .away deaf .transit B o
           , total-snoc (one send o B) (i .order) e, total-snoc (one receive o B) (i .order) e)
       }
+
+  -- the event is about an object of this home and happens there: it is heard at once
+  module _ (about : m .owner (e .object) ≡ h + 1) (here : e .at ≡ h) where
+    hears : Hears e m m′
+    hears = c .happens .home (omega arith)
+
+    still : (X : ℕ) → m′ .reports X h ≡ m .reports X h
+    still X = c .happens .rest X h (λ t. t .2 (t .0 ∙ here))
+
+    -- at another port the event changes nothing
+    elsewhere : (X o : ℕ) → ¬ (X ≡ h) → (one receive o X e ≡ 0) × (one create o X e ≡ 0) × (one delete o X e ≡ 0)
+    elsewhere X o d = at-other n o X e (c .proper) (λ q. d (sym q ∙ here))
+
+    pub here-home : Home n h m′
+    here-home = record
+      { order = i .order
+      ; lanes = λ X. still X ∙ i .lanes X
+      ; quiet = still h ∙ i .quiet
+      ; named = named
+      ; proper = i .proper
+      ; ear = λ X o w. ear X o (mine o w) (ℕ-discrete X h)
+      ; holder = λ X o w. rw (still X) (holder X o (mine o w) (ℕ-discrete X h))
+      ; room = λ X o w. rw (still X) (room X o (mine o w) (ℕ-discrete X h))
+      ; holding = λ X o w. rw (still X) (omega (arith, hears .heard X o, c .happens .held X o, i .holding X o (mine o w)))
+      ; transits = λ B o w. transits B o (mine o w) (ℕ-discrete B h)
+      ; travel = λ B o w. omega (arith, i .travel B o (mine o w), hears .transit B o, c .moves B o)
+      }
+      where
+        ear : (X o : ℕ) → m .owner o ≡ h + 1 → Dec (X ≡ h) → m′ .heard X o ≤ holdingLimit
+        ear X o w (no d) = (let z = elsewhere X o d in omega (arith, i .ear X o w, hears .heard X o, z .0, z .1))
+        ear X o w (yes q) = go (decLt 0 (gain o X e))
+          where
+            itself : m .heard X o ≡ m .held X o
+            itself = rw q (home-hears-itself n h m i o w)
+
+            go : Dec (0 < gain o X e) → m′ .heard X o ≤ holdingLimit
+            go (yes k) = omega (arith, itself, c .fits X o k, hears .heard X o, gain-le o X e)
+            go (no k) = omega (arith, i .ear X o w, hears .heard X o)
+
+        holder : (X o : ℕ) → m .owner o ≡ h + 1 → Dec (X ≡ h) → Fine (holderCount o X) (m′ .heard X o) 0 (m .reports X h)
+        holder X o w (yes q) = rw (q, i .quiet) (fine-none (holderCount o h) [] (m′ .heard h o) 0 (all-nil _))
+        holder X o w (no d) = (let z = elsewhere X o d in fine-more (holderCount o X) (m .reports X h) (m .heard X o) 0 (m′ .heard X o) 0
+            (omega (arith, hears .heard X o, z .0, z .1, z .2)) (i .holder X o w))
+
+        room : (X o : ℕ) → m .owner o ≡ h + 1 → Dec (X ≡ h) → Fine (roomCount o X) holdingLimit (m′ .heard X o) (m .reports X h)
+        room X o w (yes q) = rw (q, i .quiet) (fine-none (roomCount o h) [] holdingLimit (m′ .heard h o) (all-nil _))
+        room X o w (no d) = (let z = elsewhere X o d in fine-more (roomCount o X) (m .reports X h) holdingLimit (m .heard X o) holdingLimit (m′ .heard X o)
+            (omega (arith, hears .heard X o, z .0, z .1, z .2)) (i .room X o w))
+
+        -- all that lowers the home's own transit happens at the home, of which no report is on the way
+        transits : (B o : ℕ) → m .owner o ≡ h + 1 → Dec (B ≡ h) → Fine (transitCount o B) (m′ .transit B o) (transitZero n) (i .order)
+        transits B o w (yes q) = fine-none (transitCount o B) (i .order) (m′ .transit B o) (transitZero n)
+            (all-both _ _ _ (i .order) (λ f p d k. (let z = at-other n o B f p (λ r. d (r ∙ q)) in omega (arith, z .0, k))) (i .proper)
+            (from-none h (i .order) (sym (i .lanes h) ∙ i .quiet)))
+        transits B o w (no d) = (let z = elsewhere B o d in fine-more (transitCount o B) (i .order) (m .transit B o) (transitZero n) (m′ .transit B o) (transitZero n)
+            (omega (arith, hears .transit B o, z .0)) (i .transits B o w))
+
+-- Nothing that this home looks at changes.
+pub record Untouched (n h : ℕ) (m m′ : M) : Type 0 where
+  pub kept : (o : ℕ) → m′ .owner o ≡ h + 1 → m .owner o ≡ h + 1
+  pub named : (o : ℕ) → m .owner o ≡ h + 1 → m′ .owner o ≡ h + 1
+  pub held : (p o : ℕ) → m .owner o ≡ h + 1 → m′ .held p o ≡ m .held p o
+  pub heard : (p o : ℕ) → m .owner o ≡ h + 1 → m′ .heard p o ≡ m .heard p o
+  pub transit : (p o : ℕ) → m .owner o ≡ h + 1 → m′ .transit p o ≡ m .transit p o
+  pub way : (p o : ℕ) → m .owner o ≡ h + 1 → onWay n (m′ .pointers) p o ≡ onWay n (m .pointers) p o
+  pub reports : (X : ℕ) → m′ .reports X h ≡ m .reports X h
+
+pub untouched-home : (n h : ℕ) (m m′ : M) → Untouched n h m m′ → Home n h m → Home n h m′
+untouched-home n h m m′ u i = record
+  { order = i .order
+  ; lanes = λ X. u .reports X ∙ i .lanes X
+  ; quiet = u .reports h ∙ i .quiet
+  ; named = all-map _ _ (i .order) (λ f. u .named (f .object)) (i .named)
+  ; proper = i .proper
+  ; ear = λ X o w. rw (u .heard X o (u .kept o w)) (i .ear X o (u .kept o w))
+  ; holder = λ X o w. rw (u .reports X, u .heard X o (u .kept o w)) (i .holder X o (u .kept o w))
+  ; room = λ X o w. rw (u .reports X, u .heard X o (u .kept o w)) (i .room X o (u .kept o w))
+  ; holding = λ X o w. rw (u .reports X, u .heard X o (u .kept o w), u .held X o (u .kept o w)) (i .holding X o (u .kept o w))
+  ; transits = λ B o w. rw (u .transit B o (u .kept o w)) (i .transits B o (u .kept o w))
+  ; travel = λ B o w. rw (u .transit B o (u .kept o w), u .way B o (u .kept o w)) (i .travel B o (u .kept o w))
+  }
+
+-- an event keeps what every home looks at
+pub event-home : (n h : ℕ) (e : Event) (m m′ : M) → Can n e m m′ → Home n h m → Home n h m′
+event-home n h e m m′ c i = go (ℕ-discrete (m .owner (e .object)) (h + 1)) (ℕ-discrete (e .at) h)
+  where
+    other : ¬ (m .owner (e .object) ≡ h + 1) → (o : ℕ) → m .owner o ≡ h + 1 → ¬ (e .object ≡ o)
+    other d o w q = d (ap (m .owner) q ∙ w)
+
+    books : (p o : ℕ) → ¬ (e .object ≡ o) → Dec (m .owner (e .object) ≡ e .at + 1) → (m′ .heard p o ≡ m .heard p o) × (m′ .transit p o ≡ m .transit p o)
+    books p o d (no k) = (c .happens .away k .heard p o, c .happens .away k .transit p o)
+    books p o d (yes q) =
+        ( omega (arith, c .happens .home q .heard p o, one-object receive o p e d, one-object create o p e d, one-object delete o p e d)
+        , omega (arith, c .happens .home q .transit p o, one-object receive o p e d, one-object send o p e d) )
+
+    go : Dec (m .owner (e .object) ≡ h + 1) → Dec (e .at ≡ h) → Home n h m′
+    go (yes q) (yes r) = here-home n h e m m′ c i q r
+    go (yes q) (no r) = away-home n h e m m′ c i q r
+    go (no d) r = untouched-home n h m m′ (record
+      { kept = λ o w. sym (c .happens .owner o) ∙ w
+      ; named = λ o w. c .happens .owner o ∙ w
+      ; held = λ p o w. (let k = other d o w in
+          omega (arith, c .happens .held p o, one-object receive o p e k, one-object create o p e k, one-object delete o p e k))
+      ; heard = λ p o w. books p o (other d o w) (ℕ-discrete (m .owner (e .object)) (e .at + 1)) .0
+      ; transit = λ p o w. books p o (other d o w) (ℕ-discrete (m .owner (e .object)) (e .at + 1)) .1
+      ; way = λ p o w. (let k = other d o w in omega (arith, c .moves p o, one-object receive o p e k, one-object send o p e k))
+      ; reports = λ X. c .happens .rest X h (λ t. d (t .1))
+      }) i

@@ -4,3 +4,4 @@ pub mod Order
 pub mod Events
 pub mod Model
 pub mod Home
+pub mod Hearing

@@ -106,6 +106,10 @@ module _ {E : Type 0} (p : E → Bool) where
       go false q k r = (q, r k)
 
 module _ {E : Type 0} (f : E → ℕ) where
+  pub total-more : (e : E) (l : List E) → total f (e ∷ l) ≡ f e + total f l
+  unfolding total
+  total-more e l = refl
+
   pub total-snoc : (l : List E) (e : E) → total f (l ++ (e ∷ [])) ≡ total f l + f e
   unfolding total
   total-snoc [] e = omega arith

@@ -10,7 +10,7 @@ use lib.Dec.{eqb}
 use borrow.Author.Tests.{eqb-true, eqb-false, eq-eqb, ne-eqb}
 use Rattle.paper.specs.Paper.{Event}
 use Rattle.demands.specs.History.{those}
-use Rattle.demands.proofs.Lists.{All, total, those-yes, those-no, those-append, those-pass, all-map, all-those}
+use Rattle.demands.proofs.Lists.{All, total, those-yes, those-no, those-append, those-pass, none-those, all-head, all-map, all-those}
 
 -- the reports of port X, in their order; the order without the first of them
 abbrev pub from : ℕ → List Event → List Event
@@ -46,6 +46,14 @@ from-at X l = all-map _ _ (from X l) (λ e h. eqb-true (e .at) X h) (those-pass 
 pub front-at : (X : ℕ) (l : List Event) {e : Event} {r : List Event} → from X l ≡ e ∷ r → e .at ≡ X
 unfolding All
 front-at X l {e} {r} h = (rw h at (from-at X l)) .0
+
+-- what holds of all holds of a port's first
+pub front-has : (P : Event → Type 0) (X : ℕ) (l : List Event) {e : Event} {r : List Event} → from X l ≡ e ∷ r → All P l → P e
+front-has P X l {e} {r} h w = all-head P e r (rw h at (all-those P (λ f. eqb (f .at) X) l w))
+
+-- a port without reports
+pub from-none : (X : ℕ) (l : List Event) → from X l ≡ [] → All (λ e. ¬ (e .at ≡ X)) l
+from-none X l h = all-map _ _ l (λ e q. eqb-false (e .at) X q) (none-those (λ f. eqb (f .at) X) l h)
 
 -- what holds of every lane's reports holds of all
 pub all-lanes : (P : Event → Type 0) (l : List Event) → ((X : ℕ) → All P (from X l)) → All P l
