@@ -167,3 +167,6 @@ holder-or-receipt n e w = go (e .kind) refl (w .names)
 -- a list without events about o counts nothing of o
 pub none-about : (k : Kind) (o Y : ℕ) (l : List Event) → All (λ e. ¬ (e .object ≡ o)) l → total (one k o Y) l ≡ 0
 none-about k o Y l w = total-none (one k o Y) l (all-map _ _ l (λ e d. one-object k o Y e d) w)
+
+pub none-gained : (o Y : ℕ) (l : List Event) → All (λ e. ¬ (e .object ≡ o)) l → total (gain o Y) l ≡ 0
+none-gained o Y l w = total-none (gain o Y) l (all-map _ _ l (λ e d. omega (arith, one-object receive o Y e d, one-object create o Y e d)) w)

@@ -5,3 +5,5 @@ pub mod Events
 pub mod Model
 pub mod Home
 pub mod Hearing
+pub mod Absent
+pub mod Sums
