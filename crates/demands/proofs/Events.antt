@@ -138,6 +138,16 @@ at-other n o X e w d = go (e .kind) refl (w .names)
     go create q k = off k
     go delete q k = off k
 
+-- a proper event names a port
+pub names-port : (n : ℕ) (e : Event) → Proper n e → e .names < n
+names-port n e w = go (e .kind) (w .names)
+  where
+    go : (v : Kind) → Names v n (e .at) (e .names) → e .names < n
+    go send k = k .0
+    go receive k = omega (arith, w .port)
+    go create k = omega (arith, w .port)
+    go delete k = omega (arith, w .port)
+
 -- a loss is a holder's; an event about o is a holder's or a receipt where it happens
 pub loss-holder : (o Y : ℕ) (e : Event) → 0 < loss o Y e → Holder o e
 loss-holder o Y e h = (active, same (eqb (e .object) o) refl)

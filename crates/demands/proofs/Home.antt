@@ -7,7 +7,7 @@ use mathlib.Core.List.{List, [], _∷_, _++_, nil≢cons}
 use Prim.Native.Nat.{ℕ, _+_, _≤_, _<_}
 use native.Mathlib.Omega.{arith}
 use native.Mathlib.Decide.{ℕ-discrete, decLt}
-use Rattle.paper.specs.Paper.{send, receive, create, delete, Event}
+use Rattle.paper.specs.Paper.{Kind, send, receive, create, delete, Event}
 use Rattle.books.specs.Books.{holdingLimit, transitZero}
 use Rattle.demands.proofs.Lists.{All, all-nil, all-snoc, all-head, all-map, all-both, all-those, total, total-snoc}
 use Rattle.demands.proofs.Order.{from, from-none, from-snoc, from-skip, front-at, without, without-same, without-other, all-without, total-without}
@@ -184,18 +184,24 @@ untouched-home n h m m′ u i = record
   ; travel = λ B o w. rw (u .transit B o (u .kept o w), u .way B o (u .kept o w)) (i .travel B o (u .kept o w))
   }
 
+-- what an event that counts nothing of o at p leaves alone
+pub unconcerned : (e : Event) (m m′ : M) → Happens e m m′ → (p o : ℕ) → ((k : Kind) → one k o p e ≡ 0)
+    → (m′ .held p o ≡ m .held p o) × (m′ .heard p o ≡ m .heard p o) × (m′ .transit p o ≡ m .transit p o)
+unconcerned e m m′ w p o z = go (ℕ-discrete (m .owner (e .object)) (e .at + 1))
+  where
+    held : m′ .held p o ≡ m .held p o
+    held = omega (arith, w .held p o, z receive, z create, z delete)
+
+    go : Dec (m .owner (e .object) ≡ e .at + 1) → (m′ .held p o ≡ m .held p o) × (m′ .heard p o ≡ m .heard p o) × (m′ .transit p o ≡ m .transit p o)
+    go (no d) = (held, w .away d .heard p o, w .away d .transit p o)
+    go (yes q) = (held, omega (arith, w .home q .heard p o, z receive, z create, z delete), omega (arith, w .home q .transit p o, z send, z receive))
+
 -- an event keeps what every home looks at
 pub event-home : (n h : ℕ) (e : Event) (m m′ : M) → Can n e m m′ → Home n h m → Home n h m′
 event-home n h e m m′ c i = go (ℕ-discrete (m .owner (e .object)) (h + 1)) (ℕ-discrete (e .at) h)
   where
-    other : ¬ (m .owner (e .object) ≡ h + 1) → (o : ℕ) → m .owner o ≡ h + 1 → ¬ (e .object ≡ o)
-    other d o w q = d (ap (m .owner) q ∙ w)
-
-    books : (p o : ℕ) → ¬ (e .object ≡ o) → Dec (m .owner (e .object) ≡ e .at + 1) → (m′ .heard p o ≡ m .heard p o) × (m′ .transit p o ≡ m .transit p o)
-    books p o d (no k) = (c .happens .away k .heard p o, c .happens .away k .transit p o)
-    books p o d (yes q) =
-        ( omega (arith, c .happens .home q .heard p o, one-object receive o p e d, one-object create o p e d, one-object delete o p e d)
-        , omega (arith, c .happens .home q .transit p o, one-object receive o p e d, one-object send o p e d) )
+    other : ¬ (m .owner (e .object) ≡ h + 1) → (p o : ℕ) → m .owner o ≡ h + 1 → (k : Kind) → one k o p e ≡ 0
+    other d p o w k = one-object k o p e (λ q. d (ap (m .owner) q ∙ w))
 
     go : Dec (m .owner (e .object) ≡ h + 1) → Dec (e .at ≡ h) → Home n h m′
     go (yes q) (yes r) = here-home n h e m m′ c i q r
@@ -203,10 +209,9 @@ event-home n h e m m′ c i = go (ℕ-discrete (m .owner (e .object)) (h + 1)) (
     go (no d) r = untouched-home n h m m′ (record
       { kept = λ o w. sym (c .happens .owner o) ∙ w
       ; named = λ o w. c .happens .owner o ∙ w
-      ; held = λ p o w. (let k = other d o w in
-          omega (arith, c .happens .held p o, one-object receive o p e k, one-object create o p e k, one-object delete o p e k))
-      ; heard = λ p o w. books p o (other d o w) (ℕ-discrete (m .owner (e .object)) (e .at + 1)) .0
-      ; transit = λ p o w. books p o (other d o w) (ℕ-discrete (m .owner (e .object)) (e .at + 1)) .1
-      ; way = λ p o w. (let k = other d o w in omega (arith, c .moves p o, one-object receive o p e k, one-object send o p e k))
+      ; held = λ p o w. unconcerned e m m′ (c .happens) p o (other d p o w) .0
+      ; heard = λ p o w. unconcerned e m m′ (c .happens) p o (other d p o w) .1
+      ; transit = λ p o w. unconcerned e m m′ (c .happens) p o (other d p o w) .2
+      ; way = λ p o w. omega (arith, c .moves p o, other d p o w receive, other d p o w send)
       ; reports = λ X. c .happens .rest X h (λ t. d (t .1))
       }) i

@@ -7,3 +7,4 @@ pub mod Home
 pub mod Hearing
 pub mod Absent
 pub mod Sums
+pub mod Core

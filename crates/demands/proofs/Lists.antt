@@ -130,3 +130,9 @@ module _ {E : Type 0} (f : E → ℕ) where
 pub length-nil : {E : Type 0} (l : List E) → length l ≡ 0 → l ≡ []
 length-nil [] e = refl
 length-nil (x ∷ l) e = absurd (omega arith)
+
+-- a list of which no member can be
+pub all-never : {E : Type 0} (P : E → Type 0) (l : List E) → All P l → ((e : E) → ¬ (P e)) → l ≡ []
+unfolding All
+all-never P [] w h = refl
+all-never P (e ∷ l) w h = absurd (h e (w .0))
