@@ -12,7 +12,7 @@ use Rattle.books.specs.Books.{holdingLimit, transitZero}
 use Rattle.lanes.specs.Lane.{pointerPlaces, reportPlaces}
 use Rattle.demands.proofs.Lists.{All, all-map, all-both, all-those, all-never}
 use Rattle.demands.proofs.Order.{from, from-at}
-use Rattle.demands.proofs.Events.{one, gain, loss, Proper, gain-le, names-port, one-object, one-names}
+use Rattle.demands.proofs.Events.{one, gain, loss, Proper, kinds-le, names-port, one-object, one-names}
 use Rattle.demands.proofs.Model.{M, Lanes, SameLanes, onWay, Happens, Heard, Owned}
 use Rattle.demands.proofs.Home.{Home, Can, unconcerned, event-home}
 use Rattle.demands.proofs.Hearing.{oldest-named, oldest-proper, hear-home, hear-other}
@@ -85,7 +85,7 @@ module _ (n : ℕ) where
       other o p w k = one-object k o p e (λ q. used (ap (m .owner) q ∙ w))
 
       top : (p o : ℕ) → Dec (0 < gain o p e) → m′ .held p o ≤ holdingLimit
-      top p o (yes k) = omega (arith, c .fits p o k, c .happens .held p o, gain-le o p e)
+      top p o (yes k) = omega (arith, c .fits p o k, c .happens .held p o, kinds-le o p e)
       top p o (no k) = omega (arith, g .top p o, c .happens .held p o)
 
       short : (A B : ℕ) → Dec (A ≡ e .at) → Dec (m .owner (e .object) ≡ B + 1) → Dec (A ≡ B) → length (m′ .reports A B) ≤ reportPlaces

@@ -7,8 +7,9 @@ use mathlib.Core.Logic.{_⊎_, inl, inr}
 use mathlib.Core.List.{List, [], _∷_}
 use Prim.Native.Nat.{ℕ, _+_, _≤_, _<_}
 use native.Mathlib.Omega.{arith}
+use native.Mathlib.Decide.{ℕ-discrete}
 use lib.Dec.{eqb}
-use borrow.Author.Tests.{eqb-true, eqb-false, eq-eqb, ne-eqb}
+use borrow.Author.Tests.{eq-eqb, ne-eqb}
 use Rattle.paper.specs.Paper.{Kind, send, receive, create, delete, number, Event, concerns, count}
 use Rattle.demands.proofs.Lists.{All, all-map, total, total-none}
 use Rattle.demands.proofs.Order.{Count}
@@ -76,12 +77,13 @@ one-le k o Y e = go (eqb (number (e .kind)) (number k) && concerns o Y e)
     go false = omega arith
 
 -- an event is of one kind only
-pub gain-le : (o Y : ℕ) (e : Event) → gain o Y e + loss o Y e ≤ 1
+pub kinds-le : (o Y : ℕ) (e : Event) → one send o Y e + (gain o Y e + loss o Y e) ≤ 1
 unfolding one
-gain-le o Y e = go (e .kind) (concerns o Y e)
+kinds-le o Y e = go (e .kind) (concerns o Y e)
   where
-    go : (v : Kind) (b : Bool) → oneOf v receive b + oneOf v create b + oneOf v delete b ≤ 1
-    go send b = omega arith
+    go : (v : Kind) (b : Bool) → oneOf v send b + (oneOf v receive b + oneOf v create b + oneOf v delete b) ≤ 1
+    go send true = omega arith
+    go send false = omega arith
     go receive true = omega arith
     go receive false = omega arith
     go create true = omega arith
@@ -89,15 +91,10 @@ gain-le o Y e = go (e .kind) (concerns o Y e)
     go delete true = omega arith
     go delete false = omega arith
 
-pub receive-no-send : (o Y Z : ℕ) (e : Event) → 0 < one receive o Y e → one send o Z e ≡ 0
+-- an event of another kind
+pub one-kind : (k : Kind) (o Y : ℕ) (e : Event) → ¬ (number (e .kind) ≡ number k) → one k o Y e ≡ 0
 unfolding one
-receive-no-send o Y Z e = go (e .kind) (concerns o Y e) (concerns o Z e)
-  where
-    go : (v : Kind) (b c : Bool) → 0 < oneOf v receive b → oneOf v send c ≡ 0
-    go send b c h = absurd (omega arith)
-    go receive b c h = refl
-    go create b c h = refl
-    go delete b c h = refl
+one-kind k o Y e d = rw (ne-eqb (number (e .kind)) (number k) d)
 
 -- an event about another object, or that names another port
 pub one-object : (k : Kind) (o Y : ℕ) (e : Event) → ¬ (e .object ≡ o) → one k o Y e ≡ 0
@@ -116,6 +113,18 @@ one-names k o Y e d = rw (ne-eqb (e .names) Y d) (go (eqb (number (e .kind)) (nu
     go true true = refl
     go true false = refl
     go false c = refl
+
+-- an event that counts is about the object and names the port
+pub one-concerns : (k : Kind) (o Y : ℕ) (e : Event) → 0 < one k o Y e → (e .object ≡ o) × (e .names ≡ Y)
+one-concerns k o Y e h = (object (ℕ-discrete (e .object) o), names (ℕ-discrete (e .names) Y))
+  where
+    object : Dec (e .object ≡ o) → e .object ≡ o
+    object (yes q) = q
+    object (no d) = absurd (omega (arith, one-object k o Y e d))
+
+    names : Dec (e .names ≡ Y) → e .names ≡ Y
+    names (yes q) = q
+    names (no d) = absurd (omega (arith, one-names k o Y e d))
 
 -- the event itself
 pub one-self : (k : Kind) (e : Event) → e .kind ≡ k → one k (e .object) (e .names) e ≡ 1
@@ -150,7 +159,7 @@ names-port n e w = go (e .kind) (w .names)
 
 -- a loss is a holder's; an event about o is a holder's or a receipt where it happens
 pub loss-holder : (o Y : ℕ) (e : Event) → 0 < loss o Y e → Holder o e
-loss-holder o Y e h = (active, same (eqb (e .object) o) refl)
+loss-holder o Y e h = (active, one-concerns delete o Y e h .0)
   where
     active : Active (e .kind)
     active = unfold one in go (e .kind) (concerns o Y e) (unfold one in h)
@@ -160,10 +169,6 @@ loss-holder o Y e h = (active, same (eqb (e .object) o) refl)
         go receive b k = absurd (omega arith)
         go create b k = tt
         go delete b k = tt
-
-    same : (b : Bool) → eqb (e .object) o ≡ b → e .object ≡ o
-    same true q = eqb-true (e .object) o q
-    same false q = absurd (omega (arith, one-object delete o Y e (eqb-false (e .object) o q)))
 
 pub holder-or-receipt : (n : ℕ) (e : Event) → Proper n e → Active (e .kind) ⊎ (one receive (e .object) (e .at) e ≡ 1)
 holder-or-receipt n e w = go (e .kind) refl (w .names)

@@ -10,7 +10,7 @@ use Rattle.books.specs.Books.{holdingLimit, transitZero}
 use Rattle.demands.proofs.Lists.{All, all-map, total, total-more}
 use Rattle.demands.proofs.Order.{from, front-at, front-has, without, without-same, without-other, all-without, total-without}
 use Rattle.demands.proofs.Order.{Fine, fine-more, fine-head, fine-tail, fine-early}
-use Rattle.demands.proofs.Events.{one, gain, loss, Proper, transitCount, holderCount, roomCount, at-other, gain-le, one-object}
+use Rattle.demands.proofs.Events.{one, gain, loss, Proper, transitCount, holderCount, roomCount, at-other, kinds-le, one-object}
 use Rattle.demands.proofs.Model.{M, onWay, Hears, Taken, Heard}
 use Rattle.demands.proofs.Home.{Home, Untouched, untouched-home}
 
@@ -87,7 +87,7 @@ module _ (n A h : ℕ) (m : M) (i : Home n h m) {e : Event} {l : List Event} (la
             go (no k) = omega (arith, i .ear X o w, t .books .heard X o)
             go (yes k) = (let r : m .heard X o < holdingLimit = fine-head (roomCount o X) e l holdingLimit (m .heard X o)
                 (rw (ap (λ (Y : ℕ). m .reports Y h) q ∙ lane) at (i .room X o w)) k in
-                omega (arith, t .books .heard X o, gain-le o X e))
+                omega (arith, t .books .heard X o, kinds-le o X e))
 
         holder : (X o : ℕ) → m .owner o ≡ h + 1 → Dec (X ≡ A) → Fine (holderCount o X) (m′ .heard X o) 0 (m′ .reports X h)
         holder X o w (no d) = (let z = other X o d in rw (still X d) (fine-more (holderCount o X) (m .reports X h) (m .heard X o) 0 (m′ .heard X o) 0

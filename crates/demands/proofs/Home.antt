@@ -12,7 +12,7 @@ use Rattle.books.specs.Books.{holdingLimit, transitZero}
 use Rattle.demands.proofs.Lists.{All, all-nil, all-snoc, all-head, all-map, all-both, all-those, total, total-snoc}
 use Rattle.demands.proofs.Order.{from, from-none, from-snoc, from-skip, front-at, without, without-same, without-other, all-without, total-without}
 use Rattle.demands.proofs.Order.{Count, Fine, fine-more, fine-snoc, fine-none, fine-head, fine-tail, fine-early}
-use Rattle.demands.proofs.Events.{one, gain, loss, Proper, Holder, transitCount, holderCount, roomCount, at-other, gain-le, receive-no-send, one-object, one-names}
+use Rattle.demands.proofs.Events.{one, gain, loss, Proper, Holder, transitCount, holderCount, roomCount, at-other, kinds-le, one-object, one-names}
 use Rattle.demands.proofs.Model.{M, onWay, Hears, Happens, Heard}
 
 -- the holding of o that the home has heard that X has, the reports of X's lane to h counted in, is X's true holding
@@ -98,7 +98,7 @@ module _ (n h : ℕ) (e : Event) (m m′ : M) (c : Can n e m m′) (i : Home n h
           , total-snoc (gain o (e .at)) (m .reports (e .at) h) e, total-snoc (loss o (e .at)) (m .reports (e .at) h) e))
           (λ Y d. (let z = at-other n o Y e (c .proper) (λ q. d (sym q)) in omega (arith, c .happens .away deaf .heard Y o, c .happens .held Y o, i .holding Y o (mine o w), z .0, z .1, z .2))) X
       ; transits = λ B o w. rw (c .happens .away deaf .transit B o) (fine-snoc (transitCount o B) (i .order) e (m .transit B o) (transitZero n)
-          (i .transits B o (mine o w)) (λ k. (let q : 0 < one receive o B e = k in omega (arith, i .travel B o (mine o w), c .moves B o, receive-no-send o B B e k))))
+          (i .transits B o (mine o w)) (λ k. (let q : 0 < one receive o B e = k in omega (arith, i .travel B o (mine o w), c .moves B o, kinds-le o B e))))
       ; travel = λ B o w. omega (arith, i .travel B o (mine o w), c .moves B o, c .happens .away deaf .transit B o
           , total-snoc (one send o B) (i .order) e, total-snoc (one receive o B) (i .order) e)
       }
@@ -138,7 +138,7 @@ module _ (n h : ℕ) (e : Event) (m m′ : M) (c : Can n e m m′) (i : Home n h
             itself = rw q (home-hears-itself n h m i o w)
 
             go : Dec (0 < gain o X e) → m′ .heard X o ≤ holdingLimit
-            go (yes k) = omega (arith, itself, c .fits X o k, hears .heard X o, gain-le o X e)
+            go (yes k) = omega (arith, itself, c .fits X o k, hears .heard X o, kinds-le o X e)
             go (no k) = omega (arith, i .ear X o w, hears .heard X o)
 
         holder : (X o : ℕ) → m .owner o ≡ h + 1 → Dec (X ≡ h) → Fine (holderCount o X) (m′ .heard X o) 0 (m .reports X h)

@@ -8,3 +8,4 @@ pub mod Hearing
 pub mod Absent
 pub mod Sums
 pub mod Core
+pub mod Range

@@ -136,3 +136,13 @@ pub all-never : {E : Type 0} (P : E → Type 0) (l : List E) → All P l → ((e
 unfolding All
 all-never P [] w h = refl
 all-never P (e ∷ l) w h = absurd (h e (w .0))
+
+-- those that pass are no more than all
+pub length-those : {E : Type 0} (p : E → Bool) (l : List E) → length (those p l) ≤ length l
+unfolding those
+length-those p [] = omega arith
+length-those p (e ∷ l) = go (p e) (length-those p l)
+  where
+    go : (b : Bool) → length (those p l) ≤ length l → length (cond b (e ∷ those p l) (those p l)) ≤ length (e ∷ l)
+    go true h = omega arith
+    go false h = omega arith
