@@ -9,3 +9,5 @@ pub mod Absent
 pub mod Sums
 pub mod Core
 pub mod Range
+pub mod Steps
+pub mod Kept
