@@ -10,4 +10,5 @@ pub mod Sums
 pub mod Core
 pub mod Range
 pub mod Steps
+pub mod Acts
 pub mod Kept
