@@ -12,3 +12,5 @@ pub mod Range
 pub mod Steps
 pub mod Acts
 pub mod Kept
+pub mod History
+pub mod Left
