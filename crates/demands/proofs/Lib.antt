@@ -14,3 +14,4 @@ pub mod Acts
 pub mod Kept
 pub mod History
 pub mod Left
+pub mod Counted
