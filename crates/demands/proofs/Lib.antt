@@ -15,3 +15,4 @@ pub mod Kept
 pub mod History
 pub mod Left
 pub mod Counted
+pub mod Legal
