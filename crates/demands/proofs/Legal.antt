@@ -26,7 +26,7 @@ unfolding onWay
 waiting-way n m A B x l k h = omega (arith, sum-term n A (λ X. length (those (λ y. eqb y x) (m .pointers X B))) k
     , ap (λ (j : List ℕ). length (those (λ y. eqb y x) j)) h, pointers-front x x l, one)
   where
-    one : cond (eqb x x) 1 0 ≡ 1
+    one : _≡_ {A = ℕ} (cond (eqb x x) 1 0) 1
     one = rw (eq-eqb x x refl)
 
 module _ (n : ℕ) (acts : List Act) (m : M) (c : Counted n acts m) where

@@ -16,3 +16,5 @@ pub mod History
 pub mod Left
 pub mod Counted
 pub mod Legal
+pub mod Verdict
+pub mod Settle
