@@ -38,10 +38,12 @@ module _ (n h o : ℕ) where
       → ((X : ℕ) → X < n → ¬ (X ≡ h) → Fine (holderCount o X) 0 0 (from X l)) → ((B : ℕ) → Fine (transitCount o B) (a B) (b B) l) → Unnamed o l
   unfolding All
   clear [] a b le p d ho tr = tt
-  clear (e ∷ l) a b le p d ho tr =
-      (other, clear l (λ B. a B + one send o B e) (λ B. b B + one receive o B e)
-      (λ B k. omega (arith, le B k, one-object send o B e other, one-object receive o B e other)) (p .1) (d .1) rest
-      (λ B. fine-tail (transitCount o B) e l (a B) (b B) (tr B)))
+  clear (e ∷ l) a b le p d ho tr = (
+    other,
+    clear l (λ B. a B + one send o B e) (λ B. b B + one receive o B e)
+        (λ B k. omega (arith, le B k, one-object send o B e other, one-object receive o B e other)) (p .1) (d .1) rest
+        (λ B. fine-tail (transitCount o B) e l (a B) (b B) (tr B)),
+  )
     where
       other : ¬ (e .object ≡ o)
       other q = go (holder-or-receipt n e (p .0))
@@ -69,11 +71,11 @@ module _ (n h o : ℕ) where
 
     -- DEMAND 3, safety
     pub absent-gone : Absent n h o m → Gone n h o m
-    absent-gone a = record
-      { away = λ X k d. omega (arith, i .holding X o mine, a .away X k d, none-gained o X (m .reports X h) (lane X), none-about delete o X (m .reports X h) (lane X))
-      ; none = λ B k. omega (arith, i .travel B o mine, a .none B k, none-about send o B (i .order) all, none-about receive o B (i .order) all)
-      ; unheard = lane
-      }
+    absent-gone a = record {
+      away = λ X k d. omega (arith, i .holding X o mine, a .away X k d, none-gained o X (m .reports X h) (lane X), none-about delete o X (m .reports X h) (lane X));
+      none = λ B k. omega (arith, i .travel B o mine, a .none B k, none-about send o B (i .order) all, none-about receive o B (i .order) all);
+      unheard = lane;
+    }
       where
         all : Unnamed o (i .order)
         all = absent-unnamed a
@@ -100,19 +102,19 @@ Bare n p o m = (m .held p o ≡ 0) × (m .heard p o ≡ 0) × (m .transit p o �
 
 -- an object of which nothing is kept and no report speaks may change its owner
 pub owned-home : (n h x b : ℕ) (m m′ : M) → Owned x b m m′ → (i : Home n h m) → Unnamed x (i .order) → ((p : ℕ) → Bare n p x m) → Home n h m′
-owned-home n h x b m m′ t i all bare = record
-  { order = i .order
-  ; lanes = λ X. t .reports X h ∙ i .lanes X
-  ; quiet = t .reports h h ∙ i .quiet
-  ; named = all-both _ _ _ (i .order) (λ e w d. t .rest (e .object) d ∙ w) (i .named) all
-  ; proper = i .proper
-  ; ear = λ X o w. rw (t .books .heard X o) (ear X o w (ℕ-discrete o x))
-  ; holder = λ X o w. rw (t .books .heard X o, t .reports X h) (holder X o w (ℕ-discrete o x))
-  ; room = λ X o w. rw (t .books .heard X o, t .reports X h) (room X o w (ℕ-discrete o x))
-  ; holding = λ X o w. rw (t .books .heard X o, t .held X o, t .reports X h) (holding X o w (ℕ-discrete o x))
-  ; transits = λ B o w. rw (t .books .transit B o) (transits B o w (ℕ-discrete o x))
-  ; travel = λ B o w. rw (t .books .transit B o) (travel B o w (ℕ-discrete o x))
-  }
+owned-home n h x b m m′ t i all bare = record {
+  order = i .order;
+  lanes = λ X. t .reports X h ∙ i .lanes X;
+  quiet = t .reports h h ∙ i .quiet;
+  named = all-both _ _ _ (i .order) (λ e w d. t .rest (e .object) d ∙ w) (i .named) all;
+  proper = i .proper;
+  ear = λ X o w. rw (t .books .heard X o) (ear X o w (ℕ-discrete o x));
+  holder = λ X o w. rw (t .books .heard X o, t .reports X h) (holder X o w (ℕ-discrete o x));
+  room = λ X o w. rw (t .books .heard X o, t .reports X h) (room X o w (ℕ-discrete o x));
+  holding = λ X o w. rw (t .books .heard X o, t .held X o, t .reports X h) (holding X o w (ℕ-discrete o x));
+  transits = λ B o w. rw (t .books .transit B o) (transits B o w (ℕ-discrete o x));
+  travel = λ B o w. rw (t .books .transit B o) (travel B o w (ℕ-discrete o x));
+}
   where
     mine : (o : ℕ) → m′ .owner o ≡ h + 1 → ¬ (o ≡ x) → m .owner o ≡ h + 1
     mine o w d = sym (t .rest o d) ∙ w

@@ -35,12 +35,12 @@ module _ (n A B x : ℕ) (f g : Lanes ℕ) (w : Laned n f) where
   nowhere X Y q d rest = rest X Y d ∙ q
 
   pub laned-added : A < n → B < n → ¬ (A ≡ B) → ¬ (length (f A B) ≡ pointerPlaces) → Added A B x f g → Laned n g
-  laned-added la lb d place t = record
-    { narrow = λ X Y. narrow X Y (ℕ-discrete X A) (ℕ-discrete Y B)
-    ; self = λ X. nowhere X X (w .self X) (λ k. d (sym (k .0) ∙ k .1)) (t .rest)
-    ; sender = λ X Y l. nowhere X Y (w .sender X Y l) (λ k. omega (arith, k .0)) (t .rest)
-    ; receiver = λ X Y l. nowhere X Y (w .receiver X Y l) (λ k. omega (arith, k .1)) (t .rest)
-    }
+  laned-added la lb d place t = record {
+    narrow = λ X Y. narrow X Y (ℕ-discrete X A) (ℕ-discrete Y B);
+    self = λ X. nowhere X X (w .self X) (λ k. d (sym (k .0) ∙ k .1)) (t .rest);
+    sender = λ X Y l. nowhere X Y (w .sender X Y l) (λ k. omega (arith, k .0)) (t .rest);
+    receiver = λ X Y l. nowhere X Y (w .receiver X Y l) (λ k. omega (arith, k .1)) (t .rest);
+  }
     where
       narrow : (X Y : ℕ) → Dec (X ≡ A) → Dec (Y ≡ B) → length (g X Y) ≤ pointerPlaces
       narrow X Y (no r) s = rw (t .rest X Y (λ k. r (k .0))) (w .narrow X Y)
@@ -48,12 +48,12 @@ module _ (n A B x : ℕ) (f g : Lanes ℕ) (w : Laned n f) where
       narrow X Y (yes q) (yes r) = rw (q, r, t .here, length-append) (omega (arith, w .narrow A B))
 
   pub laned-taken : A < n → B < n → ¬ (A ≡ B) → Taken A B x f g → Laned n g
-  laned-taken la lb d t = record
-    { narrow = λ X Y. narrow X Y (ℕ-discrete X A) (ℕ-discrete Y B)
-    ; self = λ X. nowhere X X (w .self X) (λ k. d (sym (k .0) ∙ k .1)) (t .rest)
-    ; sender = λ X Y l. nowhere X Y (w .sender X Y l) (λ k. omega (arith, k .0)) (t .rest)
-    ; receiver = λ X Y l. nowhere X Y (w .receiver X Y l) (λ k. omega (arith, k .1)) (t .rest)
-    }
+  laned-taken la lb d t = record {
+    narrow = λ X Y. narrow X Y (ℕ-discrete X A) (ℕ-discrete Y B);
+    self = λ X. nowhere X X (w .self X) (λ k. d (sym (k .0) ∙ k .1)) (t .rest);
+    sender = λ X Y l. nowhere X Y (w .sender X Y l) (λ k. omega (arith, k .0)) (t .rest);
+    receiver = λ X Y l. nowhere X Y (w .receiver X Y l) (λ k. omega (arith, k .1)) (t .rest);
+  }
     where
       narrow : (X Y : ℕ) → Dec (X ≡ A) → Dec (Y ≡ B) → length (g X Y) ≤ pointerPlaces
       narrow X Y (no r) s = rw (t .rest X Y (λ k. r (k .0))) (w .narrow X Y)
@@ -95,41 +95,41 @@ module _ (n : ℕ) where
 
   -- the four events of acts can happen
   pub send-can : (A o B : ℕ) (m m′ : M) → MaySend n A o B m → Effect SEND A o B m m′ → Can n (sending o A B) m m′
-  send-can A o B m m′ w t = record
-    { proper = record { port = w .sender; names = (w .receiver, λ q. w .apart (sym q)) }
-    ; able = λ d k. (let z : ¬ (m .held A o ≡ 0) = w .holds in omega arith)
-    ; fits = λ p q k. absurd (omega (arith, k, one-kind receive q p (sending o A B) (λ z. omega arith), one-kind create q p (sending o A B) (λ z. omega arith)))
-    ; moves = λ p q. omega (arith, added-way n A B o (m .pointers) (m′ .pointers) (w .sender) (t .0) p q, one-kind receive q p (sending o A B) (λ z. omega arith))
-    ; happens = t .1
-    }
+  send-can A o B m m′ w t = record {
+    proper = record { port = w .sender; names = (w .receiver, λ q. w .apart (sym q)) };
+    able = λ d k. (let z : ¬ (m .held A o ≡ 0) = w .holds in omega arith);
+    fits = λ p q k. absurd (omega (arith, k, one-kind receive q p (sending o A B) (λ z. omega arith), one-kind create q p (sending o A B) (λ z. omega arith)));
+    moves = λ p q. omega (arith, added-way n A B o (m .pointers) (m′ .pointers) (w .sender) (t .0) p q, one-kind receive q p (sending o A B) (λ z. omega arith));
+    happens = t .1;
+  }
 
   pub copy-can : (A o B : ℕ) (m m′ : M) → MayCopy n A o m → Effect COPY A o B m m′ → Can n (event create o A) m m′
-  copy-can A o B m m′ w t = record
-    { proper = record { port = w .port; names = refl }
-    ; able = λ d k. (let z : ¬ (m .held A o ≡ 0) = w .holds in omega arith)
-    ; fits = λ p q k. (let c = one-concerns create q p (event create o A) (omega (arith, k, one-kind receive q p (event create o A) (λ z. omega arith))) in
-        rw (← c .0, ← c .1) (omega (arith, w .room)))
-    ; moves = λ p q. omega (arith, same-way m m′ (t .0) p q, one-kind receive q p (event create o A) (λ z. omega arith), one-kind send q p (event create o A) (λ z. omega arith))
-    ; happens = t .1
-    }
+  copy-can A o B m m′ w t = record {
+    proper = record { port = w .port; names = refl };
+    able = λ d k. (let z : ¬ (m .held A o ≡ 0) = w .holds in omega arith);
+    fits = λ p q k. (let c = one-concerns create q p (event create o A) (omega (arith, k, one-kind receive q p (event create o A) (λ z. omega arith))) in
+        rw (← c .0, ← c .1) (omega (arith, w .room)));
+    moves = λ p q. omega (arith, same-way m m′ (t .0) p q, one-kind receive q p (event create o A) (λ z. omega arith), one-kind send q p (event create o A) (λ z. omega arith));
+    happens = t .1;
+  }
 
   pub drop-can : (A o B : ℕ) (m m′ : M) → MayDrop n A o m → Effect DROP A o B m m′ → Can n (event delete o A) m m′
-  drop-can A o B m m′ w t = record
-    { proper = record { port = w .port; names = refl }
-    ; able = λ d k. (let z : ¬ (m .held A o ≡ 0) = w .holds in omega arith)
-    ; fits = λ p q k. absurd (omega (arith, k, one-kind receive q p (event delete o A) (λ z. omega arith), one-kind create q p (event delete o A) (λ z. omega arith)))
-    ; moves = λ p q. omega (arith, same-way m m′ (t .0) p q, one-kind receive q p (event delete o A) (λ z. omega arith), one-kind send q p (event delete o A) (λ z. omega arith))
-    ; happens = t .1
-    }
+  drop-can A o B m m′ w t = record {
+    proper = record { port = w .port; names = refl };
+    able = λ d k. (let z : ¬ (m .held A o ≡ 0) = w .holds in omega arith);
+    fits = λ p q k. absurd (omega (arith, k, one-kind receive q p (event delete o A) (λ z. omega arith), one-kind create q p (event delete o A) (λ z. omega arith)));
+    moves = λ p q. omega (arith, same-way m m′ (t .0) p q, one-kind receive q p (event delete o A) (λ z. omega arith), one-kind send q p (event delete o A) (λ z. omega arith));
+    happens = t .1;
+  }
 
   pub deliver-can : (A o B : ℕ) (m m′ : M) → Room n m → MayDeliver n A B m → (t : Effect DELIVER A o B m m′) → Can n (event receive (t .0) B) m m′
-  deliver-can A o B m m′ r w t = record
-    { proper = record { port = w .receiver; names = refl }
-    ; able = λ d k. absurd (k .0)
-    ; fits = λ p q k. omega (arith, k, r p q, way p q, one-kind create q p (event receive (t .0) B) (λ z. omega arith))
-    ; moves = λ p q. omega (arith, way p q, one-kind send q p (event receive (t .0) B) (λ z. omega arith))
-    ; happens = t .2
-    }
+  deliver-can A o B m m′ r w t = record {
+    proper = record { port = w .receiver; names = refl };
+    able = λ d k. absurd (k .0);
+    fits = λ p q k. omega (arith, k, r p q, way p q, one-kind create q p (event receive (t .0) B) (λ z. omega arith));
+    moves = λ p q. omega (arith, way p q, one-kind send q p (event receive (t .0) B) (λ z. omega arith));
+    happens = t .2;
+  }
     where
       way : (p q : ℕ) → onWay n (m′ .pointers) p q + one receive q p (event receive (t .0) B) ≡ onWay n (m .pointers) p q
       way = taken-way n A B (t .0) (m .pointers) (m′ .pointers) (w .sender) (t .1)

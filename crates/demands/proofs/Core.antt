@@ -26,12 +26,12 @@ pub record Laned (n : ℕ) (f : Lanes ℕ) : Type 0 where
   pub receiver : (A B : ℕ) → n ≤ B → f A B ≡ []
 
 pub laned-same : (n : ℕ) (f g : Lanes ℕ) → SameLanes f g → Laned n f → Laned n g
-laned-same n f g s w = record
-  { narrow = λ A B. rw (s A B) (w .narrow A B)
-  ; self = λ A. s A A ∙ w .self A
-  ; sender = λ A B k. s A B ∙ w .sender A B k
-  ; receiver = λ A B k. s A B ∙ w .receiver A B k
-  }
+laned-same n f g s w = record {
+  narrow = λ A B. rw (s A B) (w .narrow A B);
+  self = λ A. s A A ∙ w .self A;
+  sender = λ A B k. s A B ∙ w .sender A B k;
+  receiver = λ A B k. s A B ∙ w .receiver A B k;
+}
 
 -- nothing is kept of a port that is none
 abbrev pub Void : ℕ → ℕ → ℕ → M → Type 0
@@ -68,18 +68,18 @@ module _ (n : ℕ) where
   -- an event about an object in use, with room on its report lane
   pub event-core : (e : Event) (m m′ : M) → Core n m → Can n e m m′ → ¬ (m .owner (e .object) ≡ 0)
       → ((h : ℕ) → m .owner (e .object) ≡ h + 1 → ¬ (e .at ≡ h) → length (m .reports (e .at) h) < reportPlaces) → Laned n (m′ .pointers) → Core n m′
-  event-core e m m′ g c used place lanes = record
-    { home = λ h. event-home n h e m m′ c (g .home h)
-    ; owners = λ o. omega (arith, c .happens .owner o, g .owners o)
-    ; clean = λ o w p. (let k : m .owner o ≡ 0 = sym (c .happens .owner o) ∙ w in
+  event-core e m m′ g c used place lanes = record {
+    home = λ h. event-home n h e m m′ c (g .home h);
+    owners = λ o. omega (arith, c .happens .owner o, g .owners o);
+    clean = λ o w p. (let k : m .owner o ≡ 0 = sym (c .happens .owner o) ∙ w in
         let u = unconcerned e m m′ (c .happens) p o (other o p k) in let b = g .clean o k p in
-        (u .0 ∙ b .0, u .1 ∙ b .1, u .2 ∙ b .2, omega (arith, c .moves p o, other o p k send, other o p k receive, b .3)))
-    ; outside = λ p o l. (let u = unconcerned e m m′ (c .happens) p o (λ k. one-names k o p e (λ q. omega (arith, names-port n e (c .proper)))) in
-        let b = g .outside p o l in (u .0 ∙ b .0, u .1 ∙ b .1, u .2 ∙ b .2))
-    ; top = λ p o. top p o (decLt 0 (gain o p e))
-    ; short = λ A B. short A B (ℕ-discrete A (e .at)) (ℕ-discrete (m .owner (e .object)) (B + 1)) (ℕ-discrete A B)
-    ; lanes = lanes
-    }
+        (u .0 ∙ b .0, u .1 ∙ b .1, u .2 ∙ b .2, omega (arith, c .moves p o, other o p k send, other o p k receive, b .3)));
+    outside = λ p o l. (let u = unconcerned e m m′ (c .happens) p o (λ k. one-names k o p e (λ q. omega (arith, names-port n e (c .proper)))) in
+        let b = g .outside p o l in (u .0 ∙ b .0, u .1 ∙ b .1, u .2 ∙ b .2));
+    top = λ p o. top p o (decLt 0 (gain o p e));
+    short = λ A B. short A B (ℕ-discrete A (e .at)) (ℕ-discrete (m .owner (e .object)) (B + 1)) (ℕ-discrete A B);
+    lanes = lanes;
+  }
     where
       other : (o p : ℕ) → m .owner o ≡ 0 → (k : Kind) → one k o p e ≡ 0
       other o p w k = one-object k o p e (λ q. used (ap (m .owner) q ∙ w))
@@ -97,19 +97,24 @@ module _ (n : ℕ) where
 
   -- a hearing
   pub hear-core : (A h : ℕ) (e : Event) (m m′ : M) → Core n m → Heard A h e m m′ → Core n m′
-  hear-core A h e m m′ g t = record
-    { home = λ k. home k (ℕ-discrete k h)
-    ; owners = λ o. omega (arith, t .owner o, g .owners o)
-    ; clean = λ o w p. (let k : m .owner o ≡ 0 = sym (t .owner o) ∙ w in let b = g .clean o k p in let z = other o p k in
-        (t .held p o ∙ b .0, omega (arith, t .books .heard p o, b .1, z receive, z create, z delete)
-        , omega (arith, t .books .transit p o, b .2, z send, z receive), way p o ∙ b .3))
-    ; outside = λ p o l. (let b = g .outside p o l in let z = away o p l in
-        (t .held p o ∙ b .0, omega (arith, t .books .heard p o, b .1, z receive, z create, z delete)
-        , omega (arith, t .books .transit p o, b .2, z send, z receive)))
-    ; top = λ p o. rw (t .held p o) (g .top p o)
-    ; short = λ X Y. short X Y (ℕ-discrete X A) (ℕ-discrete Y h)
-    ; lanes = laned-same n (m .pointers) (m′ .pointers) (t .pointers) (g .lanes)
-    }
+  hear-core A h e m m′ g t = record {
+    home = λ k. home k (ℕ-discrete k h);
+    owners = λ o. omega (arith, t .owner o, g .owners o);
+    clean = λ o w p. (let k : m .owner o ≡ 0 = sym (t .owner o) ∙ w in let b = g .clean o k p in let z = other o p k in (
+      t .held p o ∙ b .0,
+      omega (arith, t .books .heard p o, b .1, z receive, z create, z delete),
+      omega (arith, t .books .transit p o, b .2, z send, z receive),
+      way p o ∙ b .3,
+    ));
+    outside = λ p o l. (let b = g .outside p o l in let z = away o p l in (
+      t .held p o ∙ b .0,
+      omega (arith, t .books .heard p o, b .1, z receive, z create, z delete),
+      omega (arith, t .books .transit p o, b .2, z send, z receive),
+    ));
+    top = λ p o. rw (t .held p o) (g .top p o);
+    short = λ X Y. short X Y (ℕ-discrete X A) (ℕ-discrete Y h);
+    lanes = laned-same n (m .pointers) (m′ .pointers) (t .pointers) (g .lanes);
+  }
     where
       home : (k : ℕ) → Dec (k ≡ h) → Home n k m′
       home k (yes q) = rw q (hear-home n A h m (g .home h) (t .taken .here) m′ t refl)
@@ -131,15 +136,15 @@ module _ (n : ℕ) where
 
   -- a change of owner of an object of which nothing is kept and nothing said
   pub owned-core : (x b : ℕ) (m m′ : M) (g : Core n m) → Owned x b m m′ → b ≤ n → ((p : ℕ) → Bare n p x m) → ((h : ℕ) → Unnamed x (g .home h .order)) → Core n m′
-  owned-core x b m m′ g t l bare all = record
-    { home = λ h. owned-home n h x b m m′ t (g .home h) (all h) bare
-    ; owners = λ o. owners o (ℕ-discrete o x)
-    ; clean = λ o w p. (let k = clean o w p (ℕ-discrete o x) in (t .held p o ∙ k .0, t .books .heard p o ∙ k .1, t .books .transit p o ∙ k .2, way p o ∙ k .3))
-    ; outside = λ p o k. (let v = g .outside p o k in (t .held p o ∙ v .0, t .books .heard p o ∙ v .1, t .books .transit p o ∙ v .2))
-    ; top = λ p o. rw (t .held p o) (g .top p o)
-    ; short = λ A B. rw (t .reports A B) (g .short A B)
-    ; lanes = laned-same n (m .pointers) (m′ .pointers) (t .pointers) (g .lanes)
-    }
+  owned-core x b m m′ g t l bare all = record {
+    home = λ h. owned-home n h x b m m′ t (g .home h) (all h) bare;
+    owners = λ o. owners o (ℕ-discrete o x);
+    clean = λ o w p. (let k = clean o w p (ℕ-discrete o x) in (t .held p o ∙ k .0, t .books .heard p o ∙ k .1, t .books .transit p o ∙ k .2, way p o ∙ k .3));
+    outside = λ p o k. (let v = g .outside p o k in (t .held p o ∙ v .0, t .books .heard p o ∙ v .1, t .books .transit p o ∙ v .2));
+    top = λ p o. rw (t .held p o) (g .top p o);
+    short = λ A B. rw (t .reports A B) (g .short A B);
+    lanes = laned-same n (m .pointers) (m′ .pointers) (t .pointers) (g .lanes);
+  }
     where
       way : (p o : ℕ) → onWay n (m′ .pointers) p o ≡ onWay n (m .pointers) p o
       way p o = unfold onWay in simp (t .pointers)

@@ -81,12 +81,12 @@ module _ (n : ℕ) where
   -- an act that is one event and makes nothing
   event-counted : (a : Act) (acts : List Act) (e : Event) (m m′ : M) → is MAKE a ≡ false → is HEAR a ≡ false → eventsOf a acts ≡ e ∷ []
       → owner (a ∷ acts) (e .object) ≡ m .owner (e .object) → Can n e m m′ → Counted n acts m → Counted n (a ∷ acts) m′
-  event-counted a acts e m m′ h j w s c k = record
-    { held = λ p o. (let i = count-event eventsOf a acts o e h w in omega (arith, k .held p o, c .happens .held p o, i delete p, i receive p, i create p))
-    ; way = λ p o. (let i = count-event eventsOf a acts o e h w in omega (arith, k .way p o, c .moves p o, i receive p, i send p))
-    ; books = λ p o. books p o (ℕ-discrete (m .owner (e .object)) (e .at + 1))
-    ; transits = λ p o. transits p o (ℕ-discrete (m .owner (e .object)) (e .at + 1))
-    }
+  event-counted a acts e m m′ h j w s c k = record {
+    held = λ p o. (let i = count-event eventsOf a acts o e h w in omega (arith, k .held p o, c .happens .held p o, i delete p, i receive p, i create p));
+    way = λ p o. (let i = count-event eventsOf a acts o e h w in omega (arith, k .way p o, c .moves p o, i receive p, i send p));
+    books = λ p o. books p o (ℕ-discrete (m .owner (e .object)) (e .at + 1));
+    transits = λ p o. transits p o (ℕ-discrete (m .owner (e .object)) (e .at + 1));
+  }
     where
       books : (p o : ℕ) → Dec (m .owner (e .object) ≡ e .at + 1) → HoldingOf o p (heard o (a ∷ acts)) (m′ .heard p o)
       books p o (yes q) = (let i = count-event learnt a acts o e h (learnt-home a acts e j w (s ∙ q)) in
@@ -101,12 +101,12 @@ module _ (n : ℕ) where
   -- MAKE: the history of the object begins anew, and nothing was kept of it
   make-counted : (A o B : ℕ) (acts : List Act) (m m′ : M) → Kept n m → MayMake n A m → Made A (lowest m) m m′ → Follows acts m
       → Follows (act MAKE A o B ∷ acts) m′ → Counted n acts m → Counted n (act MAKE A o B ∷ acts) m′
-  make-counted A o B acts m m′ g w t f f′ k = record
-    { held = λ p q. held p q (ℕ-discrete q x)
-    ; way = λ p q. way p q (ℕ-discrete q x)
-    ; books = λ p q. books p q (ℕ-discrete q x)
-    ; transits = λ p q. transits p q (ℕ-discrete q x)
-    }
+  make-counted A o B acts m m′ g w t f f′ k = record {
+    held = λ p q. held p q (ℕ-discrete q x);
+    way = λ p q. way p q (ℕ-discrete q x);
+    books = λ p q. books p q (ℕ-discrete q x);
+    transits = λ p q. transits p q (ℕ-discrete q x);
+  }
     where
       x : ℕ
       x = lowest m
@@ -160,12 +160,12 @@ module _ (n : ℕ) where
 
   -- HEAR: what was the oldest unheard event is heard
   hear-counted : (A o B : ℕ) (acts : List Act) (m m′ : M) → (t : Effect HEAR A o B m m′) → Follows acts m → Counted n acts m → Counted n (act HEAR A o B ∷ acts) m′
-  hear-counted A o B acts m m′ t f k = record
-    { held = λ p q. rw (quiet q, t .1 .held p q) (k .held p q)
-    ; way = λ p q. rw (quiet q, same-way n m m′ (t .1 .pointers) p q) (k .way p q)
-    ; books = λ p q. (let i = count-event learnt (act HEAR A o B) acts q (t .0) refl hears in omega (arith, k .books p q, t .1 .books .heard p q, i delete p, i receive p, i create p))
-    ; transits = λ p q. (let i = count-event learnt (act HEAR A o B) acts q (t .0) refl hears in omega (arith, k .transits p q, t .1 .books .transit p q, i send p, i receive p))
-    }
+  hear-counted A o B acts m m′ t f k = record {
+    held = λ p q. rw (quiet q, t .1 .held p q) (k .held p q);
+    way = λ p q. rw (quiet q, same-way n m m′ (t .1 .pointers) p q) (k .way p q);
+    books = λ p q. (let i = count-event learnt (act HEAR A o B) acts q (t .0) refl hears in omega (arith, k .books p q, t .1 .books .heard p q, i delete p, i receive p, i create p));
+    transits = λ p q. (let i = count-event learnt (act HEAR A o B) acts q (t .0) refl hears in omega (arith, k .transits p q, t .1 .books .transit p q, i send p, i receive p));
+  }
     where
       quiet : (q : ℕ) → happened q (act HEAR A o B ∷ acts) ≡ happened q acts
       quiet q = since-none eventsOf (act HEAR A o B) acts q refl (unfold eventsOf in refl)
@@ -176,12 +176,12 @@ module _ (n : ℕ) where
   -- an act that is no event and no hearing
   still-counted : (a : Act) (acts : List Act) (m m′ : M) → is MAKE a ≡ false → is HEAR a ≡ false → eventsOf a acts ≡ []
       → ((p o : ℕ) → m′ .held p o ≡ m .held p o) → Deaf m m′ → ((A B : ℕ) → m′ .pointers A B ≡ m .pointers A B) → Counted n acts m → Counted n (a ∷ acts) m′
-  still-counted a acts m m′ h j w held deaf s k = record
-    { held = λ p o. rw (since-none eventsOf a acts o h w, held p o) (k .held p o)
-    ; way = λ p o. rw (since-none eventsOf a acts o h w, same-way n m m′ s p o) (k .way p o)
-    ; books = λ p o. rw (since-none learnt a acts o h quiet, deaf .heard p o) (k .books p o)
-    ; transits = λ p o. rw (since-none learnt a acts o h quiet, deaf .transit p o) (k .transits p o)
-    }
+  still-counted a acts m m′ h j w held deaf s k = record {
+    held = λ p o. rw (since-none eventsOf a acts o h w, held p o) (k .held p o);
+    way = λ p o. rw (since-none eventsOf a acts o h w, same-way n m m′ s p o) (k .way p o);
+    books = λ p o. rw (since-none learnt a acts o h quiet, deaf .heard p o) (k .books p o);
+    transits = λ p o. rw (since-none learnt a acts o h quiet, deaf .transit p o) (k .transits p o);
+  }
     where
       quiet : learnt a acts ≡ []
       quiet = unfold learnt those in rw (j, w)
@@ -207,12 +207,12 @@ module _ (n : ℕ) where
 
   pub reached-counted : (acts : List Act) (m : M) → Reached n acts m → Counted n acts m
   unfolding since count
-  reached-counted acts m (begin f) = record
-    { held = λ p o. omega (arith, f .held p o)
-    ; way = λ p o. omega (arith, reached-kept n acts m (begin f) .core .clean o (f .owner o) p .3)
-    ; books = λ p o. omega (arith, f .heard p o)
-    ; transits = λ p o. omega (arith, f .transit p o)
-    }
+  reached-counted acts m (begin f) = record {
+    held = λ p o. omega (arith, f .held p o);
+    way = λ p o. omega (arith, reached-kept n acts m (begin f) .core .clean o (f .owner o) p .3);
+    books = λ p o. omega (arith, f .heard p o);
+    transits = λ p o. omega (arith, f .transit p o);
+  }
   reached-counted acts m (next {acts = before} {m = m₀} r (step k A o B w t)) =
       act-counted k A o B before m₀ m (reached-kept n before m₀ r) (reached-follows n before m₀ r)
       (act-follows k A o B before m₀ m t (reached-follows n before m₀ r)) w t (reached-counted before m₀ r)

@@ -51,22 +51,27 @@ module _ (n A h : ℕ) (m : M) (i : Home n h m) {e : Event} {l : List Event} (la
     still X d = t .taken .rest X h (λ k. d (k .0))
 
     pub hear-home : Home n h m′
-    hear-home = record
-      { order = without A (i .order)
-      ; lanes = λ X. lanes X (ℕ-discrete X A)
-      ; quiet = quiet (ℕ-discrete h A)
-      ; named = all-without A _ (i .order) (all-map _ _ (i .order) (λ f w. t .owner (f .object) ∙ w) (i .named))
-      ; proper = all-without A _ (i .order) (i .proper)
-      ; ear = λ X o w. ear X o (mine o w) (ℕ-discrete X A)
-      ; holder = λ X o w. holder X o (mine o w) (ℕ-discrete X A)
-      ; room = λ X o w. room X o (mine o w) (ℕ-discrete X A)
-      ; holding = λ X o w. holding X o (mine o w) (ℕ-discrete X A)
-      ; transits = λ B o w. fine-more (transitCount o B) (without A (i .order)) (m .transit B o + one send o B e) (transitZero n + one receive o B e)
+    hear-home = record {
+      order = without A (i .order);
+      lanes = λ X. lanes X (ℕ-discrete X A);
+      quiet = quiet (ℕ-discrete h A);
+      named = all-without A _ (i .order) (all-map _ _ (i .order) (λ f w. t .owner (f .object) ∙ w) (i .named));
+      proper = all-without A _ (i .order) (i .proper);
+      ear = λ X o w. ear X o (mine o w) (ℕ-discrete X A);
+      holder = λ X o w. holder X o (mine o w) (ℕ-discrete X A);
+      room = λ X o w. room X o (mine o w) (ℕ-discrete X A);
+      holding = λ X o w. holding X o (mine o w) (ℕ-discrete X A);
+      transits = λ B o w. fine-more (transitCount o B) (without A (i .order)) (m .transit B o + one send o B e) (transitZero n + one receive o B e)
           (m′ .transit B o) (transitZero n) (omega (arith, t .books .transit B o))
-          (fine-early (transitCount o B) A (i .order) (m .transit B o) (transitZero n) front (apart o B) (i .transits B o (mine o w)))
-      ; travel = λ B o w. rw (way B o) (omega (arith, i .travel B o (mine o w), t .books .transit B o
-          , total-without A (one send o B) (i .order) front, total-without A (one receive o B) (i .order) front))
-      }
+          (fine-early (transitCount o B) A (i .order) (m .transit B o) (transitZero n) front (apart o B) (i .transits B o (mine o w)));
+      travel = λ B o w. rw (way B o) (omega (
+        arith,
+        i .travel B o (mine o w),
+        t .books .transit B o,
+        total-without A (one send o B) (i .order) front,
+        total-without A (one receive o B) (i .order) front,
+      ));
+    }
       where
         way : (B o : ℕ) → onWay n (m′ .pointers) B o ≡ onWay n (m .pointers) B o
         way B o = unfold onWay in simp (t .pointers)
@@ -106,21 +111,27 @@ module _ (n A h : ℕ) (m : M) (i : Home n h m) {e : Event} {l : List Event} (la
         holding : (X o : ℕ) → m .owner o ≡ h + 1 → Dec (X ≡ A)
             → m′ .heard X o + total (gain o X) (m′ .reports X h) ≡ m′ .held X o + total (loss o X) (m′ .reports X h)
         holding X o w (no d) = (let z = other X o d in rw (still X d) (omega (arith, t .books .heard X o, t .held X o, i .holding X o w, z .0, z .1, z .2)))
-        holding X o w (yes q) = rw (ap (λ (Y : ℕ). m′ .reports Y h) q ∙ rest) (omega (arith, t .books .heard X o, t .held X o
-            , rw (ap (λ (Y : ℕ). m .reports Y h) q ∙ lane) at (i .holding X o w), total-more (gain o X) e l, total-more (loss o X) e l))
+        holding X o w (yes q) = rw (ap (λ (Y : ℕ). m′ .reports Y h) q ∙ rest) (omega (
+          arith,
+          t .books .heard X o,
+          t .held X o,
+          rw (ap (λ (Y : ℕ). m .reports Y h) q ∙ lane) at (i .holding X o w),
+          total-more (gain o X) e l,
+          total-more (loss o X) e l,
+        ))
 
 -- another home looks at nothing that the hearing changes
 pub hear-other : (n A h k : ℕ) (e : Event) (m m′ : M) → Home n h m → Home n k m → Heard A h e m m′ → ¬ (k ≡ h) → Home n k m′
-hear-other n A h k e m m′ i j t d = untouched-home n k m m′ (record
-  { kept = λ o w. sym (t .owner o) ∙ w
-  ; named = λ o w. t .owner o ∙ w
-  ; held = λ p o w. t .held p o
-  ; heard = λ p o w. (let r = other o w in
-      omega (arith, t .books .heard p o, one-object receive o p e r, one-object create o p e r, one-object delete o p e r))
-  ; transit = λ p o w. (let r = other o w in omega (arith, t .books .transit p o, one-object receive o p e r, one-object send o p e r))
-  ; way = λ p o w. unfold onWay in simp (t .pointers)
-  ; reports = λ X. t .taken .rest X k (λ r. d (r .1))
-  }) j
+hear-other n A h k e m m′ i j t d = untouched-home n k m m′ (record {
+  kept = λ o w. sym (t .owner o) ∙ w;
+  named = λ o w. t .owner o ∙ w;
+  held = λ p o w. t .held p o;
+  heard = λ p o w. (let r = other o w in
+      omega (arith, t .books .heard p o, one-object receive o p e r, one-object create o p e r, one-object delete o p e r));
+  transit = λ p o w. (let r = other o w in omega (arith, t .books .transit p o, one-object receive o p e r, one-object send o p e r));
+  way = λ p o w. unfold onWay in simp (t .pointers);
+  reports = λ X. t .taken .rest X k (λ r. d (r .1));
+}) j
   where
     other : (o : ℕ) → m .owner o ≡ k + 1 → ¬ (e .object ≡ o)
     other o w q = d (omega (arith, w, rw q at (oldest-named n A h m i (t .taken .here))))

@@ -21,16 +21,16 @@ pub record Left {E : Type 0} (all : List E) (k : ℕ) (lane : List E) : Type 0 w
   pub few : k ≤ length all
 
 pub left-added : {E : Type 0} (x : E) (all : List E) (k : ℕ) (lane : List E) → Left all k lane → Left (all ++ (x ∷ [])) k (lane ++ (x ∷ []))
-left-added x all k lane w = record
-  { left = drop-append-le k all (x ∷ []) (w .few) ∙ ap (λ l. l ++ (x ∷ [])) (w .left)
-  ; few = rw length-append (omega (arith, w .few))
-  }
+left-added x all k lane w = record {
+  left = drop-append-le k all (x ∷ []) (w .few) ∙ ap (λ l. l ++ (x ∷ [])) (w .left);
+  few = rw length-append (omega (arith, w .few));
+}
 
 pub left-taken : {E : Type 0} (x : E) (all : List E) (k : ℕ) (lane : List E) → Left all k (x ∷ lane) → Left all (1 + k) lane
-left-taken x all k lane w = record
-  { left = ap (λ (j : ℕ). drop j all) (add-comm 1 k) ∙ sym (drop-drop 1 k all) ∙ ap (drop 1) (w .left)
-  ; few = omega (arith, length-drop k all, ap length (w .left))
-  }
+left-taken x all k lane w = record {
+  left = ap (λ (j : ℕ). drop j all) (add-comm 1 k) ∙ sym (drop-drop 1 k all) ∙ ap (drop 1) (w .left);
+  few = omega (arith, length-drop k all, ap length (w .left));
+}
 
 -- the test of a lane, at that lane and at another
 pub at-lane : (A B : ℕ) → (eqb A A && eqb B B) ≡ true

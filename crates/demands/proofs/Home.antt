@@ -76,32 +76,44 @@ module _ (n h : ℕ) (e : Event) (m m′ : M) (c : Can n e m m′) (i : Home n h
         go (no d) = rw (rest X d) (there X d)
 
     pub away-home : Home n h m′
-    away-home = record
-      { order = i .order ++ (e ∷ [])
-      ; lanes = at-lane (λ X l. l ≡ from X (i .order ++ (e ∷ [])))
+    away-home = record {
+      order = i .order ++ (e ∷ []);
+      lanes = at-lane (λ X l. l ≡ from X (i .order ++ (e ∷ [])))
           (rw (i .lanes (e .at)) (sym (from-snoc (e .at) (i .order) e refl)))
-          (λ X d. i .lanes X ∙ sym (from-skip X (i .order) e (λ q. d (sym q))))
-      ; quiet = rest h (λ q. off (sym q)) ∙ i .quiet
-      ; named = all-snoc _ (i .order) e named (c .happens .owner (e .object) ∙ about)
-      ; proper = all-snoc _ (i .order) e (i .proper) (c .proper)
-      ; ear = λ X o w. omega (arith, c .happens .away deaf .heard X o, i .ear X o (mine o w))
-      ; holder = λ X o w. at-lane (λ Y l. Fine (holderCount o Y) (m′ .heard Y o) 0 l)
+          (λ X d. i .lanes X ∙ sym (from-skip X (i .order) e (λ q. d (sym q))));
+      quiet = rest h (λ q. off (sym q)) ∙ i .quiet;
+      named = all-snoc _ (i .order) e named (c .happens .owner (e .object) ∙ about);
+      proper = all-snoc _ (i .order) e (i .proper) (c .proper);
+      ear = λ X o w. omega (arith, c .happens .away deaf .heard X o, i .ear X o (mine o w));
+      holder = λ X o w. at-lane (λ Y l. Fine (holderCount o Y) (m′ .heard Y o) 0 l)
           (rw (c .happens .away deaf .heard (e .at) o) (fine-snoc (holderCount o (e .at)) (m .reports (e .at) h) e (m .heard (e .at) o) 0
           (i .holder (e .at) o (mine o w)) (λ k. (let q : 0 < m .held (e .at) o = rw (k .1) at (c .able deaf (k .0, refl)) in omega (arith, i .holding (e .at) o (mine o w))))))
-          (λ Y d. rw (c .happens .away deaf .heard Y o) (i .holder Y o (mine o w))) X
-      ; room = λ X o w. at-lane (λ Y l. Fine (roomCount o Y) holdingLimit (m′ .heard Y o) l)
+          (λ Y d. rw (c .happens .away deaf .heard Y o) (i .holder Y o (mine o w))) X;
+      room = λ X o w. at-lane (λ Y l. Fine (roomCount o Y) holdingLimit (m′ .heard Y o) l)
           (rw (c .happens .away deaf .heard (e .at) o) (fine-snoc (roomCount o (e .at)) (m .reports (e .at) h) e holdingLimit (m .heard (e .at) o)
           (i .room (e .at) o (mine o w)) (λ k. (let q : m .held (e .at) o < holdingLimit = c .fits (e .at) o k in omega (arith, i .holding (e .at) o (mine o w))))))
-          (λ Y d. rw (c .happens .away deaf .heard Y o) (i .room Y o (mine o w))) X
-      ; holding = λ X o w. at-lane (λ Y l. m′ .heard Y o + total (gain o Y) l ≡ m′ .held Y o + total (loss o Y) l)
-          (omega (arith, c .happens .away deaf .heard (e .at) o, c .happens .held (e .at) o, i .holding (e .at) o (mine o w)
-          , total-snoc (gain o (e .at)) (m .reports (e .at) h) e, total-snoc (loss o (e .at)) (m .reports (e .at) h) e))
-          (λ Y d. (let z = at-other n o Y e (c .proper) (λ q. d (sym q)) in omega (arith, c .happens .away deaf .heard Y o, c .happens .held Y o, i .holding Y o (mine o w), z .0, z .1, z .2))) X
-      ; transits = λ B o w. rw (c .happens .away deaf .transit B o) (fine-snoc (transitCount o B) (i .order) e (m .transit B o) (transitZero n)
-          (i .transits B o (mine o w)) (λ k. (let q : 0 < one receive o B e = k in omega (arith, i .travel B o (mine o w), c .moves B o, kinds-le o B e))))
-      ; travel = λ B o w. omega (arith, i .travel B o (mine o w), c .moves B o, c .happens .away deaf .transit B o
-          , total-snoc (one send o B) (i .order) e, total-snoc (one receive o B) (i .order) e)
-      }
+          (λ Y d. rw (c .happens .away deaf .heard Y o) (i .room Y o (mine o w))) X;
+      holding = λ X o w. at-lane (λ Y l. m′ .heard Y o + total (gain o Y) l ≡ m′ .held Y o + total (loss o Y) l)
+          (omega (
+            arith,
+            c .happens .away deaf .heard (e .at) o,
+            c .happens .held (e .at) o,
+            i .holding (e .at) o (mine o w),
+            total-snoc (gain o (e .at)) (m .reports (e .at) h) e,
+            total-snoc (loss o (e .at)) (m .reports (e .at) h) e,
+          ))
+          (λ Y d. (let z = at-other n o Y e (c .proper) (λ q. d (sym q)) in omega (arith, c .happens .away deaf .heard Y o, c .happens .held Y o, i .holding Y o (mine o w), z .0, z .1, z .2))) X;
+      transits = λ B o w. rw (c .happens .away deaf .transit B o) (fine-snoc (transitCount o B) (i .order) e (m .transit B o) (transitZero n)
+          (i .transits B o (mine o w)) (λ k. (let q : 0 < one receive o B e = k in omega (arith, i .travel B o (mine o w), c .moves B o, kinds-le o B e))));
+      travel = λ B o w. omega (
+        arith,
+        i .travel B o (mine o w),
+        c .moves B o,
+        c .happens .away deaf .transit B o,
+        total-snoc (one send o B) (i .order) e,
+        total-snoc (one receive o B) (i .order) e,
+      );
+    }
 
   -- the event is about an object of this home and happens there: it is heard at once
   module _ (about : m .owner (e .object) ≡ h + 1) (here : e .at ≡ h) where
@@ -116,19 +128,19 @@ module _ (n h : ℕ) (e : Event) (m m′ : M) (c : Can n e m m′) (i : Home n h
     elsewhere X o d = at-other n o X e (c .proper) (λ q. d (sym q ∙ here))
 
     pub here-home : Home n h m′
-    here-home = record
-      { order = i .order
-      ; lanes = λ X. still X ∙ i .lanes X
-      ; quiet = still h ∙ i .quiet
-      ; named = named
-      ; proper = i .proper
-      ; ear = λ X o w. ear X o (mine o w) (ℕ-discrete X h)
-      ; holder = λ X o w. rw (still X) (holder X o (mine o w) (ℕ-discrete X h))
-      ; room = λ X o w. rw (still X) (room X o (mine o w) (ℕ-discrete X h))
-      ; holding = λ X o w. rw (still X) (omega (arith, hears .heard X o, c .happens .held X o, i .holding X o (mine o w)))
-      ; transits = λ B o w. transits B o (mine o w) (ℕ-discrete B h)
-      ; travel = λ B o w. omega (arith, i .travel B o (mine o w), hears .transit B o, c .moves B o)
-      }
+    here-home = record {
+      order = i .order;
+      lanes = λ X. still X ∙ i .lanes X;
+      quiet = still h ∙ i .quiet;
+      named = named;
+      proper = i .proper;
+      ear = λ X o w. ear X o (mine o w) (ℕ-discrete X h);
+      holder = λ X o w. rw (still X) (holder X o (mine o w) (ℕ-discrete X h));
+      room = λ X o w. rw (still X) (room X o (mine o w) (ℕ-discrete X h));
+      holding = λ X o w. rw (still X) (omega (arith, hears .heard X o, c .happens .held X o, i .holding X o (mine o w)));
+      transits = λ B o w. transits B o (mine o w) (ℕ-discrete B h);
+      travel = λ B o w. omega (arith, i .travel B o (mine o w), hears .transit B o, c .moves B o);
+    }
       where
         ear : (X o : ℕ) → m .owner o ≡ h + 1 → Dec (X ≡ h) → m′ .heard X o ≤ holdingLimit
         ear X o w (no d) = (let z = elsewhere X o d in omega (arith, i .ear X o w, hears .heard X o, z .0, z .1))
@@ -170,19 +182,19 @@ pub record Untouched (n h : ℕ) (m m′ : M) : Type 0 where
   pub reports : (X : ℕ) → m′ .reports X h ≡ m .reports X h
 
 pub untouched-home : (n h : ℕ) (m m′ : M) → Untouched n h m m′ → Home n h m → Home n h m′
-untouched-home n h m m′ u i = record
-  { order = i .order
-  ; lanes = λ X. u .reports X ∙ i .lanes X
-  ; quiet = u .reports h ∙ i .quiet
-  ; named = all-map _ _ (i .order) (λ f. u .named (f .object)) (i .named)
-  ; proper = i .proper
-  ; ear = λ X o w. rw (u .heard X o (u .kept o w)) (i .ear X o (u .kept o w))
-  ; holder = λ X o w. rw (u .reports X, u .heard X o (u .kept o w)) (i .holder X o (u .kept o w))
-  ; room = λ X o w. rw (u .reports X, u .heard X o (u .kept o w)) (i .room X o (u .kept o w))
-  ; holding = λ X o w. rw (u .reports X, u .heard X o (u .kept o w), u .held X o (u .kept o w)) (i .holding X o (u .kept o w))
-  ; transits = λ B o w. rw (u .transit B o (u .kept o w)) (i .transits B o (u .kept o w))
-  ; travel = λ B o w. rw (u .transit B o (u .kept o w), u .way B o (u .kept o w)) (i .travel B o (u .kept o w))
-  }
+untouched-home n h m m′ u i = record {
+  order = i .order;
+  lanes = λ X. u .reports X ∙ i .lanes X;
+  quiet = u .reports h ∙ i .quiet;
+  named = all-map _ _ (i .order) (λ f. u .named (f .object)) (i .named);
+  proper = i .proper;
+  ear = λ X o w. rw (u .heard X o (u .kept o w)) (i .ear X o (u .kept o w));
+  holder = λ X o w. rw (u .reports X, u .heard X o (u .kept o w)) (i .holder X o (u .kept o w));
+  room = λ X o w. rw (u .reports X, u .heard X o (u .kept o w)) (i .room X o (u .kept o w));
+  holding = λ X o w. rw (u .reports X, u .heard X o (u .kept o w), u .held X o (u .kept o w)) (i .holding X o (u .kept o w));
+  transits = λ B o w. rw (u .transit B o (u .kept o w)) (i .transits B o (u .kept o w));
+  travel = λ B o w. rw (u .transit B o (u .kept o w), u .way B o (u .kept o w)) (i .travel B o (u .kept o w));
+}
 
 -- what an event that counts nothing of o at p leaves alone
 pub unconcerned : (e : Event) (m m′ : M) → Happens e m m′ → (p o : ℕ) → ((k : Kind) → one k o p e ≡ 0)
@@ -206,12 +218,12 @@ event-home n h e m m′ c i = go (ℕ-discrete (m .owner (e .object)) (h + 1)) (
     go : Dec (m .owner (e .object) ≡ h + 1) → Dec (e .at ≡ h) → Home n h m′
     go (yes q) (yes r) = here-home n h e m m′ c i q r
     go (yes q) (no r) = away-home n h e m m′ c i q r
-    go (no d) r = untouched-home n h m m′ (record
-      { kept = λ o w. sym (c .happens .owner o) ∙ w
-      ; named = λ o w. c .happens .owner o ∙ w
-      ; held = λ p o w. unconcerned e m m′ (c .happens) p o (other d p o w) .0
-      ; heard = λ p o w. unconcerned e m m′ (c .happens) p o (other d p o w) .1
-      ; transit = λ p o w. unconcerned e m m′ (c .happens) p o (other d p o w) .2
-      ; way = λ p o w. omega (arith, c .moves p o, other d p o w receive, other d p o w send)
-      ; reports = λ X. c .happens .rest X h (λ t. d (t .1))
-      }) i
+    go (no d) r = untouched-home n h m m′ (record {
+      kept = λ o w. sym (c .happens .owner o) ∙ w;
+      named = λ o w. c .happens .owner o ∙ w;
+      held = λ p o w. unconcerned e m m′ (c .happens) p o (other d p o w) .0;
+      heard = λ p o w. unconcerned e m m′ (c .happens) p o (other d p o w) .1;
+      transit = λ p o w. unconcerned e m m′ (c .happens) p o (other d p o w) .2;
+      way = λ p o w. omega (arith, c .moves p o, other d p o w receive, other d p o w send);
+      reports = λ X. c .happens .rest X h (λ t. d (t .1));
+    }) i

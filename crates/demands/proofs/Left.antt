@@ -104,19 +104,19 @@ sent-left acts A o B m m′ f t X Y = go (ℕ-discrete X A) (ℕ-discrete Y B)
 -- an act of one event that makes and retires nothing; an act that is no event
 event-follows : (a : Act) (acts : List Act) (e : Event) (m m′ : M) → is MAKE a ≡ false → is RETIRE a ≡ false → is HEAR a ≡ false → eventsOf a acts ≡ e ∷ []
     → Happens e m m′ → ((A B : ℕ) → Left (sent A B (a ∷ acts)) (times DELIVER A B (a ∷ acts)) (m′ .pointers A B)) → Follows acts m → Follows (a ∷ acts) m′
-event-follows a acts e m m′ p q r s w l f = record
-  { owners = λ o. owner-other a acts o 0 p q ∙ f .owners o ∙ sym (w .owner o)
-  ; pointers = l
-  ; reports = λ X Y. event-reports a acts e m m′ s r (owner-other a acts (e .object) 0 p q ∙ f .owners (e .object)) w X Y (f .reports X Y)
-  }
+event-follows a acts e m m′ p q r s w l f = record {
+  owners = λ o. owner-other a acts o 0 p q ∙ f .owners o ∙ sym (w .owner o);
+  pointers = l;
+  reports = λ X Y. event-reports a acts e m m′ s r (owner-other a acts (e .object) 0 p q ∙ f .owners (e .object)) w X Y (f .reports X Y);
+}
 
 same-follows : (a : Act) (acts : List Act) (m m′ : M) → is MAKE a ≡ false → is RETIRE a ≡ false → is SEND a ≡ false → is DELIVER a ≡ false → is HEAR a ≡ false
     → eventsOf a acts ≡ [] → Same m m′ → Follows acts m → Follows (a ∷ acts) m′
-same-follows a acts m m′ p q r s u v t f = record
-  { owners = λ o. owner-other a acts o 0 p q ∙ f .owners o ∙ sym (t .owner o)
-  ; pointers = still-pointers a acts m m′ r s (t .pointers) f
-  ; reports = still-reports a acts m m′ v u (t .reports) f
-  }
+same-follows a acts m m′ p q r s u v t f = record {
+  owners = λ o. owner-other a acts o 0 p q ∙ f .owners o ∙ sym (t .owner o);
+  pointers = still-pointers a acts m m′ r s (t .pointers) f;
+  reports = still-reports a acts m m′ v u (t .reports) f;
+}
 
 -- the owner of an object that is given another owner
 owned-owner : (x b : ℕ) (m m′ : M) → Owned x b m m′ → (q : ℕ) → cond (eqb q x) b (m .owner q) ≡ m′ .owner q
@@ -127,12 +127,12 @@ owned-owner x b m m′ t q = go (ℕ-discrete q x)
     go (no d) = rw (ne-eqb q x d) (sym (t .rest q d))
 
 make-follows : (A o B : ℕ) (acts : List Act) (m m′ : M) → Made A (lowest m) m m′ → Follows acts m → Follows (act MAKE A o B ∷ acts) m′
-make-follows A o B acts m m′ t f = record
-  { owners = λ q. owner-between q ∙ sym (t .happens .owner q)
-  ; pointers = still-pointers (act MAKE A o B) acts m m′ refl refl (λ X Y. t .pointers X Y ∙ t .owned .pointers X Y) f
-  ; reports = λ X Y. event-reports (act MAKE A o B) acts (event create (lowest m) A) (t .between) m′ made refl (owner-between (lowest m)) (t .happens) X Y
-      (rewritten refl refl (t .owned .reports X Y) (f .reports X Y))
-  }
+make-follows A o B acts m m′ t f = record {
+  owners = λ q. owner-between q ∙ sym (t .happens .owner q);
+  pointers = still-pointers (act MAKE A o B) acts m m′ refl refl (λ X Y. t .pointers X Y ∙ t .owned .pointers X Y) f;
+  reports = λ X Y. event-reports (act MAKE A o B) acts (event create (lowest m) A) (t .between) m′ made refl (owner-between (lowest m)) (t .happens) X Y
+      (rewritten refl refl (t .owned .reports X Y) (f .reports X Y));
+}
   where
     made : eventsOf (act MAKE A o B) acts ≡ event create (lowest m) A ∷ []
     made = unfold eventsOf in ap (λ (x : ℕ). event create x A ∷ []) (next-lowest acts m f)
@@ -154,28 +154,28 @@ act-follows DELIVER A o B acts m m′ t f =
     event-follows (act DELIVER A o B) acts (event receive (t .0) B) m m′ refl refl refl
     (ap (λ (x : ℕ). event receive x B ∷ []) (oldest-left acts m f A B (t .0) (m′ .pointers A B) (t .1 .here))) (t .2)
     (λ X Y. rewritten (sent-other (act DELIVER A o B) acts X Y refl) refl refl (taken-left DELIVER acts A o B (t .0) (λ X Y. sent X Y acts) (m .pointers) (m′ .pointers) (f .pointers) (t .1) X Y)) f
-act-follows HEAR A o B acts m m′ t f = record
-  { owners = λ q. owner-other (act HEAR A o B) acts q 0 refl refl ∙ f .owners q ∙ sym (t .1 .owner q)
-  ; pointers = still-pointers (act HEAR A o B) acts m m′ refl refl (t .1 .pointers) f
-  ; reports = λ X Y. rewritten (told-none (act HEAR A o B) acts X Y refl) refl refl
-      (taken-left HEAR acts A o B (t .0) (λ X Y. told X Y acts) (m .reports) (m′ .reports) (f .reports) (t .1 .taken) X Y)
-  }
+act-follows HEAR A o B acts m m′ t f = record {
+  owners = λ q. owner-other (act HEAR A o B) acts q 0 refl refl ∙ f .owners q ∙ sym (t .1 .owner q);
+  pointers = still-pointers (act HEAR A o B) acts m m′ refl refl (t .1 .pointers) f;
+  reports = λ X Y. rewritten (told-none (act HEAR A o B) acts X Y refl) refl refl
+      (taken-left HEAR acts A o B (t .0) (λ X Y. told X Y acts) (m .reports) (m′ .reports) (f .reports) (t .1 .taken) X Y);
+}
 act-follows ASK A o B acts m m′ t f = same-follows (act ASK A o B) acts m m′ refl refl refl refl refl refl t f
-act-follows RETIRE A o B acts m m′ t f = record
-  { owners = λ q. owner-retired acts A o B q ∙ rw (f .owners q) (owned-owner o 0 m m′ t q)
-  ; pointers = still-pointers (act RETIRE A o B) acts m m′ refl refl (t .pointers) f
-  ; reports = still-reports (act RETIRE A o B) acts m m′ refl refl (t .reports) f
-  }
+act-follows RETIRE A o B acts m m′ t f = record {
+  owners = λ q. owner-retired acts A o B q ∙ rw (f .owners q) (owned-owner o 0 m m′ t q);
+  pointers = still-pointers (act RETIRE A o B) acts m m′ refl refl (t .pointers) f;
+  reports = still-reports (act RETIRE A o B) acts m m′ refl refl (t .reports) f;
+}
 act-follows SETTLE A o B acts m m′ t f = same-follows (act SETTLE A o B) acts m m′ refl refl refl refl refl refl t f
 act-follows HOLD A o B acts m m′ t f = same-follows (act HOLD A o B) acts m m′ refl refl refl refl refl refl t f
 
 -- DEMAND: the lanes are what is left
 pub reached-follows : (n : ℕ) (acts : List Act) (m : M) → Reached n acts m → Follows acts m
-reached-follows n acts m (begin f) = record
-  { owners = λ o. unfold owner in sym (f .owner o)
-  ; pointers = λ A B. rw (f .pointers A B) (unfold sent times in record { left = refl; few = omega arith })
-  ; reports = λ A B. rw (f .reports A B) (unfold told times in record { left = refl; few = omega arith })
-  }
+reached-follows n acts m (begin f) = record {
+  owners = λ o. unfold owner in sym (f .owner o);
+  pointers = λ A B. rw (f .pointers A B) (unfold sent times in record { left = refl; few = omega arith });
+  reports = λ A B. rw (f .reports A B) (unfold told times in record { left = refl; few = omega arith });
+}
 reached-follows n acts m (next {acts = before} {m = m₀} r (step k A o B w t)) = act-follows k A o B before m₀ m t (reached-follows n before m₀ r)
 
 pub pointers-left : (n : ℕ) (acts : List Act) (m : M) → Reached n acts m → (A B : ℕ) → m .pointers A B ≡ undelivered A B acts

@@ -23,8 +23,13 @@ use Rattle.demands.proofs.Counted.{Counted, since-event, since-none, si
 -- a pointer that waits is on the way
 pub waiting-way : (n : ℕ) (m : M) (A B x : ℕ) (l : List ℕ) → A < n → m .pointers A B ≡ x ∷ l → 0 < onWay n (m .pointers) B x
 unfolding onWay
-waiting-way n m A B x l k h = omega (arith, sum-term n A (λ X. length (those (λ y. eqb y x) (m .pointers X B))) k
-    , ap (λ (j : List ℕ). length (those (λ y. eqb y x) j)) h, pointers-front x x l, one)
+waiting-way n m A B x l k h = omega (
+  arith,
+  sum-term n A (λ X. length (those (λ y. eqb y x) (m .pointers X B))) k,
+  ap (λ (j : List ℕ). length (those (λ y. eqb y x) j)) h,
+  pointers-front x x l,
+  one,
+)
   where
     one : _≡_ {A = ℕ} (cond (eqb x x) 1 0) 1
     one = rw (eq-eqb x x refl)

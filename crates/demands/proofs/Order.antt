@@ -131,9 +131,11 @@ module _ (c : Count) where
   pub fine-snoc : (l : List Event) (e : Event) (a b : ℕ) → Fine a b l → (c .needs e → b + total (c .down) l < a + total (c .up) l) → Fine a b (l ++ (e ∷ []))
   unfolding Fine total
   fine-snoc [] e a b w h = (λ k. (let x : b + 0 < a + 0 = h k in omega arith), tt)
-  fine-snoc (f ∷ l) e a b w h =
-      (w .0, fine-snoc l e (a + c .up f) (b + c .down f) (w .1)
-      (λ k. (let x : b + (c .down f + total (c .down) l) < a + (c .up f + total (c .up) l) = h k in omega arith)))
+  fine-snoc (f ∷ l) e a b w h = (
+    w .0,
+    fine-snoc l e (a + c .up f) (b + c .down f) (w .1)
+        (λ k. (let x : b + (c .down f + total (c .down) l) < a + (c .up f + total (c .up) l) = h k in omega arith)),
+  )
 
   -- reports that need nothing
   pub fine-none : (l : List Event) (a b : ℕ) → All (λ e. ¬ (c .needs e)) l → Fine a b l
@@ -161,7 +163,8 @@ module _ (c : Count) where
           → (from X l ≡ e ∷ r → Fine (a + c .up f + c .up e) (b + c .down f + c .down e) (without X l))
           → Fine (a + c .up e) (b + c .down e) (cond t l (f ∷ without X l))
       go true q k ih = rw (← head-eq-of-cons-eq k) (w .1)
-      go false q k ih =
-          ( λ t. (let x : b < a = w .0 t in let z : c .down e ≡ 0 = s .0 (eqb-false (f .at) X q) t in omega arith)
-          , fine-more (without X l) (a + c .up f + c .up e) (b + c .down f + c .down e) (a + c .up e + c .up f) (b + c .down e + c .down f)
-          (omega arith) (ih k) )
+      go false q k ih = (
+        λ t. (let x : b < a = w .0 t in let z : c .down e ≡ 0 = s .0 (eqb-false (f .at) X q) t in omega arith),
+        fine-more (without X l) (a + c .up f + c .up e) (b + c .down f + c .down e) (a + c .up e + c .up f) (b + c .down e + c .down f)
+            (omega arith) (ih k),
+      )

@@ -37,8 +37,12 @@ module _ (n : ℕ) (m : M) (g : Core n m) (o h : ℕ) (mine : m .owner o ≡ h +
 
   -- the reports on the way to a home are no more than its lanes can have
   few : length order ≤ transitZero n
-  few = omega (arith, length-from n order (all-map _ _ order (λ e w. w .port) (g .home h .proper)), g .owners o
-      , sum-le-but n reportPlaces h (λ X. length (from X order)) (omega (arith, g .owners o)) (rw (← g .home h .lanes h, g .home h .quiet)) (λ X. rw (← g .home h .lanes X) (g .short X h)))
+  few = omega (
+    arith,
+    length-from n order (all-map _ _ order (λ e w. w .port) (g .home h .proper)),
+    g .owners o,
+    sum-le-but n reportPlaces h (λ X. length (from X order)) (omega (arith, g .owners o)) (rw (← g .home h .lanes h, g .home h .quiet)) (λ X _. rw (← g .home h .lanes X) (g .short X h)),
+  )
 
   -- what is still to be taken from a transit, it has
   pub transit-least : (B : ℕ) → total (one receive o B) order + onWay n (m .pointers) B o ≤ m .transit B o
@@ -49,7 +53,7 @@ module _ (n : ℕ) (m : M) (g : Core n m) (o h : ℕ) (mine : m .owner o ≡ h +
     where
       way : onWay n (m .pointers) B o + pointerPlaces ≤ n * pointerPlaces
       way = unfold onWay in sum-le-but n pointerPlaces B (λ A. length (those (λ x. eqb x o) (m .pointers A B))) l
-          (rw (g .lanes .self B) (unfold those in refl)) (λ A. omega (arith, length-those (λ x. eqb x o) (m .pointers A B), g .lanes .narrow A B))
+          (rw (g .lanes .self B) (unfold those in refl)) (λ A _. omega (arith, length-those (λ x. eqb x o) (m .pointers A B), g .lanes .narrow A B))
 
 -- so a transit is in range, whatever the object
 pub transit-range : (n : ℕ) (m : M) → Core n m → (B o : ℕ) → B < n → m .transit B o ≤ transitTop n

@@ -5,6 +5,7 @@ use mathlib.Core.Path.{_≡_, refl, sym, ap, _∙_}
 use mathlib.Core.Logic.{_⊎_, inl, inr, _↔_}
 use mathlib.Core.List.{List, [], _∷_, _++_, nil≢cons}
 use Prim.Native.Nat.{ℕ, zero, suc, _+_, _-_, _*_, _≤_, _<_}
+use native.Mathlib.Nat.{mul-left-comm}
 use native.Mathlib.Omega.{arith}
 use native.Mathlib.Decide.{ℕ-discrete, decLt}
 use lib.Dec.{eqb}
@@ -51,6 +52,38 @@ module _ {E : Type 0} (n A B : ℕ) (x : E) (w : Weight E) (f g : Lanes E) (la :
   pub weighed-taken : Taken A B x f g → weighed n w f ≡ weighed n w g + w A B x
   weighed-taken t = weighed-grown n w g f A B (w A B x) la lb (rw (t .here) (omega (arith, total-more (w A B) x (g A B)))) (λ X Y d. sym (t .rest X Y d))
 
+-- how many entries are on the lanes between n ports
+abbrev pub entries : {E : Type 0} → ℕ → Lanes E → ℕ
+entries n f = sumTo n (λ A. sumTo n (λ B. length (f A B)))
+
+-- entries that all weigh k
+total-even : {E : Type 0} (k : ℕ) (l : List E) → total (λ e. k) l ≡ k * length l
+unfolding total
+total-even k [] = omega arith
+total-even k (e ∷ l) = omega (arith, total-even k l)
+
+sum-times : (k : ℕ) (f : ℕ → ℕ) (n : ℕ) → sumTo n (λ i. k * f i) ≡ k * sumTo n f
+unfolding sumTo
+sum-times k f zero = omega arith
+sum-times k f (suc n) = omega (arith, sum-times k f n)
+
+pub weighed-even : {E : Type 0} (n k : ℕ) (f : Lanes E) → weighed n (λ A B e. k) f ≡ k * entries n f
+unfolding weighed
+weighed-even n k f =
+    sum-ext (λ A. sumTo n (λ B. total (λ e. k) (f A B))) (λ A. k * sumTo n (λ B. length (f A B))) n
+    (λ A _. sum-ext (λ B. total (λ e. k) (f A B)) (λ B. k * length (f A B)) n (λ B _. total-even k (f A B)) ∙ sum-times k (λ B. length (f A B)) n)
+    ∙ sum-times k (λ A. sumTo n (λ B. length (f A B))) n
+
+-- terms of at most c, one of them 0
+row-le : (n c A : ℕ) (f : ℕ → ℕ) → A < n → f A ≡ 0 → ((k : ℕ) → k < n → f k ≤ c) → sumTo n f ≤ c * (n - 1)
+row-le zero c A f l q h = absurd (omega arith)
+row-le (suc n) c A f l q h = (let r : suc n - 1 ≡ n = omega arith in rw r (omega (arith, sum-le-but (suc n) c A f l q h)))
+
+-- no lane longer than c, and none from a port to itself
+pub entries-le : {E : Type 0} (n c : ℕ) (f : Lanes E) → ((A B : ℕ) → length (f A B) ≤ c) → ((A : ℕ) → f A A ≡ []) → entries n f ≤ c * (n * (n - 1))
+entries-le n c f le self = omega (arith, sum-le n (c * (n - 1)) (λ A. sumTo n (λ B. length (f A B)))
+    (λ A l. row-le n c A (λ B. length (f A B)) l (ap length (self A)) (λ B _. le A B)), mul-left-comm n c (n - 1))
+
 -- a pointer weighs 2 and a report 1
 abbrev pub pointerWeight : Weight ℕ
 pointerWeight A B x = 2
@@ -60,6 +93,15 @@ reportWeight A B e = 1
 
 unfoldable pub settling : ℕ → M → ℕ
 settling n m = weighed n pointerWeight (m .pointers) + weighed n reportWeight (m .reports)
+
+-- it is twice the pointers and the reports, and bounded
+pub settling-entries : (n : ℕ) (m : M) → settling n m ≡ 2 * entries n (m .pointers) + entries n (m .reports)
+unfolding settling
+settling-entries n m = omega (arith, weighed-even n 2 (m .pointers), weighed-even n 1 (m .reports))
+
+pub settling-le : (n : ℕ) (m : M) → Core n m → settling n m ≤ (2 * pointerPlaces + reportPlaces) * (n * (n - 1))
+settling-le n m g = omega (arith, settling-entries n m, entries-le n pointerPlaces (m .pointers) (g .lanes .narrow) (g .lanes .self)
+    , entries-le n reportPlaces (m .reports) (g .short) (λ A. g .home A .quiet))
 
 module _ (n : ℕ) where
   -- each hearing lowers the settling number by 1
@@ -81,8 +123,11 @@ module _ (n : ℕ) where
         where
           home : Dec (e .at ≡ h) → weighed n reportWeight (m′ .reports) ≤ weighed n reportWeight (m .reports) + 1
           home (yes r) = same (λ A B. t .rest A B (λ k. k .2 (omega (arith, k .0, k .1))))
-          home (no d) = omega (arith, weighed-added n (e .at) h e reportWeight (m .reports) (m′ .reports) la (omega arith)
-              (record { here = t .put h (omega arith) d; rest = λ X Y r. t .rest X Y (λ k. r (k .0, omega (arith, k .1))) }))
+          home (no d) = omega (
+            arith,
+            weighed-added n (e .at) h e reportWeight (m .reports) (m′ .reports) la (omega arith)
+                (record { here = t .put h (omega arith) d; rest = λ X Y r. t .rest X Y (λ k. r (k .0, omega (arith, k .1))) }),
+          )
 
   -- each delivery lowers it by at least 1
   pub deliver-lowers : (A o B : ℕ) (m m′ : M) → Core n m → A < n → B < n → Effect DELIVER A o B m m′ → settling n m′ < settling n m
@@ -114,27 +159,37 @@ module _ (n : ℕ) where
       pointers : ((A B : ℕ) → A < n → B < n → m .reports A B ≡ [])
           → ((A : ℕ) × (B : ℕ) × (A < n) × (B < n) × ¬ (length (m .pointers A B) ≡ 0)) ⊎ ((A B : ℕ) → A < n → B < n → m .pointers A B ≡ []) → Goal
       pointers r (inr s) = inl (λ A B la lb. (s A B la lb, r A B la lb))
-      pointers r (inl w) = inr (w .0, w .1, inr (record
-        { sender = w .2
-        ; receiver = w .3
-        ; apart = λ q. w .4 (ap length (ap (m .pointers (w .0)) (sym q) ∙ g .lanes .self (w .0)))
-        ; waits = w .4
-        ; told = λ x l k h q d z. omega (arith, z, ap length (r (w .1) h (w .3) (omega (arith, q, g .owners x))))
-        }))
+      pointers r (inl w) = inr (
+        w .0,
+        w .1,
+        inr (record {
+          sender = w .2;
+          receiver = w .3;
+          apart = λ q. w .4 (ap length (ap (m .pointers (w .0)) (sym q) ∙ g .lanes .self (w .0)));
+          waits = w .4;
+          told = λ x l k h q d z. omega (arith, z, ap length (r (w .1) h (w .3) (omega (arith, q, g .owners x))));
+        }),
+      )
 
       reports : ((A : ℕ) × (B : ℕ) × (A < n) × (B < n) × ¬ (length (m .reports A B) ≡ 0)) ⊎ ((A B : ℕ) → A < n → B < n → m .reports A B ≡ []) → Goal
-      reports (inl w) = inr (w .0, w .1, inl (record
-        { sender = w .2
-        ; receiver = w .3
-        ; apart = λ q. w .4 (ap length (ap (m .reports (w .0)) (sym q) ∙ g .home (w .0) .quiet))
-        ; waits = w .4
-        }))
+      reports (inl w) = inr (
+        w .0,
+        w .1,
+        inl (record {
+          sender = w .2;
+          receiver = w .3;
+          apart = λ q. w .4 (ap length (ap (m .reports (w .0)) (sym q) ∙ g .home (w .0) .quiet));
+          waits = w .4;
+        }),
+      )
       reports (inr r) = pointers r (found (m .pointers))
 
   -- DEMAND 3: where nothing travels, the verdict is 1 exactly when no port but the home holds the object
   pub at-rest : (m : M) → Core n m → Still m → (o h : ℕ) → m .owner o ≡ h + 1 → (verdictOf n h o m ≡ 1) ↔ ((p : ℕ) → p < n → ¬ (p ≡ h) → m .held p o ≡ 0)
-  at-rest m g s o h w = (λ e. absent-gone n h o m (g .home h) w (says-absent n h o m .0 (inl e)) .away
-      , λ a. (let k = gone-absent n h o m (g .home h) w (gone a) in absent-exactly n h o m (k .0) (k .1)))
+  at-rest m g s o h w = (
+    λ e. absent-gone n h o m (g .home h) w (says-absent n h o m .0 (inl e)) .away,
+    λ a. (let k = gone-absent n h o m (g .home h) w (gone a) in absent-exactly n h o m (k .0) (k .1)),
+  )
     where
       lane : (X : ℕ) → Dec (X < n) → m .reports X h ≡ []
       lane X (yes l) = s X h l (omega (arith, w, g .owners o)) .1

@@ -29,24 +29,22 @@ sum-grown (suc n) A d f g l e h = go (ℕ-discrete A n) (λ k. sum-grown n A d f
     go (yes q) ih = omega (arith, sum-ext g f n (λ k l. h k (λ r. omega arith)), rw q at e)
     go (no r) ih = omega (arith, ih (omega arith), h n (λ k. r (sym k)))
 
-pub sum-le : (n b : ℕ) (f : ℕ → ℕ) → ((k : ℕ) → f k ≤ b) → sumTo n f ≤ n * b
+pub sum-le : (n b : ℕ) (f : ℕ → ℕ) → ((k : ℕ) → k < n → f k ≤ b) → sumTo n f ≤ n * b
 unfolding sumTo
 sum-le zero b f h = omega arith
-sum-le (suc n) b f h = omega (arith, sum-le n b f h, h n)
+sum-le (suc n) b f h = omega (arith, sum-le n b f (λ k l. h k (omega arith)), h n (omega arith))
 
 -- one of the terms is 0
-pub sum-le-but : (n b A : ℕ) (f : ℕ → ℕ) → A < n → f A ≡ 0 → ((k : ℕ) → f k ≤ b) → sumTo n f + b ≤ n * b
-sum-le-but n b A f l q h = omega (arith, sum-grown n A b f g l (rw (eq-eqb A A refl, q) (omega arith)) (λ k d. rw (ne-eqb k A d)), sum-le n b g le)
+pub sum-le-but : (n b A : ℕ) (f : ℕ → ℕ) → A < n → f A ≡ 0 → ((k : ℕ) → k < n → f k ≤ b) → sumTo n f + b ≤ n * b
+sum-le-but n b A f l q h =
+    omega (arith, sum-grown n A b f g l (rw (eq-eqb A A refl, q) (omega arith)) (λ k d. rw (ne-eqb k A d)), sum-le n b g (λ k j. le k j (eqb k A)))
   where
     g : ℕ → ℕ
     g k = cond (eqb k A) b (f k)
 
-    le : (k : ℕ) → g k ≤ b
-    le k = go (eqb k A)
-      where
-        go : (t : Bool) → cond t b (f k) ≤ b
-        go true = omega arith
-        go false = h k
+    le : (k : ℕ) → k < n → (t : Bool) → cond t b (f k) ≤ b
+    le k j true = omega arith
+    le k j false = h k j
 
 -- a term is at most the sum; a sum above 0 has a term above 0; terms that are 0
 pub sum-term : (n A : ℕ) (f : ℕ → ℕ) → A < n → f A ≤ sumTo n f
@@ -109,8 +107,11 @@ module _ (n A B x : ℕ) (f g : Lanes ℕ) (port : A < n) where
           both : (b : Bool) → length (those (λ y. eqb y o) (f A B)) + cond b 1 0 ≡ length (those (λ y. eqb y o) (f A B)) + cond (b && true) 1 0
           both true = refl
           both false = refl
-      go (no d) = rw (ne-eqb B p (λ r. d (sym r)), sum-ext (λ X. length (those (λ y. eqb y o) (g X p))) (λ X. length (those (λ y. eqb y o) (f X p))) n
-          (λ X _. rw (t .rest X p (λ k. d (k .1))))) (none (eqb x o))
+      go (no d) = rw (
+        ne-eqb B p (λ r. d (sym r)),
+        sum-ext (λ X. length (those (λ y. eqb y o) (g X p))) (λ X. length (those (λ y. eqb y o) (f X p))) n
+            (λ X _. rw (t .rest X p (λ k. d (k .1)))),
+      ) (none (eqb x o))
         where
           none : (b : Bool) → sumTo n (λ X. length (those (λ y. eqb y o) (f X p))) ≡ sumTo n (λ X. length (those (λ y. eqb y o) (f X p))) + cond (b && false) 1 0
           none true = omega arith
@@ -127,8 +128,11 @@ module _ (n A B x : ℕ) (f g : Lanes ℕ) (port : A < n) where
           both : (b : Bool) → length (those (λ y. eqb y o) (g A B)) + cond b 1 0 ≡ length (those (λ y. eqb y o) (g A B)) + cond (b && true) 1 0
           both true = refl
           both false = refl
-      go (no d) = rw (ne-eqb B p (λ r. d (sym r)), sum-ext (λ X. length (those (λ y. eqb y o) (g X p))) (λ X. length (those (λ y. eqb y o) (f X p))) n
-          (λ X _. rw (t .rest X p (λ k. d (k .1))))) (none (eqb x o))
+      go (no d) = rw (
+        ne-eqb B p (λ r. d (sym r)),
+        sum-ext (λ X. length (those (λ y. eqb y o) (g X p))) (λ X. length (those (λ y. eqb y o) (f X p))) n
+            (λ X _. rw (t .rest X p (λ k. d (k .1)))),
+      ) (none (eqb x o))
         where
           none : (b : Bool) → sumTo n (λ X. length (those (λ y. eqb y o) (f X p))) + cond (b && false) 1 0 ≡ sumTo n (λ X. length (those (λ y. eqb y o) (f X p)))
           none true = omega arith

@@ -79,8 +79,10 @@ module _ (n h o : ℕ) (m : M) where
 
   pub says-absent : SaysAbsent ↔ Absent n h o m
   unfolding verdict
-  says-absent = (λ e. (let w = spoken-means (some n elsewhere) (some n above) (some n below) e in record { away = away (w .0); none = λ B l. ltb-false (transitZero n) (m .transit B o) (none-some above n B (w .1) l) })
-      , λ a. means-spoken (some n elsewhere) (some n above) (some n below) (tests a .0) (tests a .1))
+  says-absent = (
+    λ e. (let w = spoken-means (some n elsewhere) (some n above) (some n below) e in record { away = away (w .0); none = λ B l. ltb-false (transitZero n) (m .transit B o) (none-some above n B (w .1) l) }),
+    λ a. means-spoken (some n elsewhere) (some n above) (some n below) (tests a .0) (tests a .1),
+  )
     where
       away : some n elsewhere ≡ false → (X : ℕ) → X < n → ¬ (X ≡ h) → m .heard X o ≡ 0
       away w X l d = (let k : ltb 0 (m .heard X o) ≡ false = rw (ne-eqb X h d) at (none-some elsewhere n X w l) in omega (arith, ltb-false 0 (m .heard X o) k))
@@ -92,8 +94,10 @@ module _ (n h o : ℕ) (m : M) where
 
   -- DEMAND 2: absent is 004's absence of what the home has heard
   pub absent-is-absence : (acts : List Act) → Core n m → Counted n acts m → Absent n h o m ↔ Absence h o (heard o acts)
-  absent-is-absence acts g c = (λ a. record { nowhere = λ X d k. nowhere a X d (decLt X n) k; paired = λ B. paired a B (decLt B n) }
-      , λ b. record { away = λ X l d. away b X d; none = λ B l. omega (arith, b .paired B, c .transits B o) })
+  absent-is-absence acts g c = (
+    λ a. record { nowhere = λ X d k. nowhere a X d (decLt X n) k; paired = λ B. paired a B (decLt B n) },
+    λ b. record { away = λ X l d. away b X d; none = λ B l. omega (arith, b .paired B, c .transits B o) },
+  )
     where
       nowhere : Absent n h o m → (X : ℕ) → ¬ (X ≡ h) → Dec (X < n) → ¬ (Any o X (heard o acts))
       nowhere a X d (yes l) k = omega (arith, k, c .books X o, a .away X l d)
