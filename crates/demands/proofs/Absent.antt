@@ -8,9 +8,13 @@ use mathlib.Core.List.{List, [], _∷_}
 use Prim.Native.Nat.{ℕ, _+_, _≤_, _<_}
 use native.Mathlib.Omega.{arith}
 use native.Mathlib.Decide.{ℕ-discrete}
+use lib.Dec.{eqb}
+use lib.ListN.{length}
 use Rattle.paper.specs.Paper.{send, receive, create, delete, Event}
 use Rattle.books.specs.Books.{holdingLimit, transitZero}
-use Rattle.demands.proofs.Lists.{All, all-map, all-both, all-those, total}
+use Rattle.demands.specs.History.{those}
+use Rattle.demands.proofs.Lists.{All, all-map, all-both, all-those, total, length-nil}
+use Rattle.demands.proofs.Sums.{sum-term}
 use Rattle.demands.proofs.Order.{from, from-same, from-other, from-none, all-lanes, Fine, fine-more, fine-none, fine-head, fine-tail}
 use Rattle.demands.proofs.Events.{one, gain, loss, Proper, Active, Holder, transitCount, holderCount, roomCount, holder-or-receipt, one-object, loss-holder}
 use Rattle.demands.proofs.Events.{none-about, none-gained}
@@ -95,6 +99,13 @@ module _ (n h o : ℕ) where
 
         exact : (B : ℕ) → B < n → m .transit B o ≡ transitZero n
         exact B k = omega (arith, i .travel B o mine, g .none B k, none-about send o B (i .order) all, none-about receive o B (i .order) all)
+
+-- what is gone is on no pointer lane between ports
+pub gone-pointers : (n h o : ℕ) (m : M) → Gone n h o m → (A B : ℕ) → A < n → B < n → those (λ x. eqb x o) (m .pointers A B) ≡ []
+gone-pointers n h o m g A B la lb = length-nil (those (λ x. eqb x o) (m .pointers A B)) (omega (arith, g .none B lb, on-lane))
+  where
+    on-lane : length (those (λ x. eqb x o) (m .pointers A B)) ≤ onWay n (m .pointers) B o
+    on-lane = unfold onWay in sum-term n A (λ X. length (those (λ x. eqb x o) (m .pointers X B))) la
 
 -- all that is kept of o at port p is nothing
 abbrev pub Bare : ℕ → ℕ → ℕ → M → Type 0

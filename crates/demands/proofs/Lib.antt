@@ -5,8 +5,8 @@ pub mod Events
 pub mod Model
 pub mod Home
 pub mod Hearing
-pub mod Absent
 pub mod Sums
+pub mod Absent
 pub mod Core
 pub mod Range
 pub mod Steps
@@ -18,3 +18,5 @@ pub mod Counted
 pub mod Legal
 pub mod Verdict
 pub mod Settle
+pub mod Fits
+pub mod Reached

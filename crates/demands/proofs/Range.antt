@@ -22,7 +22,7 @@ use Rattle.demands.proofs.Hearing.{oldest-named, oldest-at, oldest-prop
 use Rattle.demands.proofs.Core.{Core}
 
 -- the receipts at B among the reports are reports of B
-receipts-le : (n o B : ℕ) (l : List Event) → All (Proper n) l → total (one receive o B) l ≤ length (from B l)
+pub receipts-le : (n o B : ℕ) (l : List Event) → All (Proper n) l → total (one receive o B) l ≤ length (from B l)
 unfolding total All
 receipts-le n o B [] w = omega arith
 receipts-le n o B (e ∷ l) w = go (ℕ-discrete (e .at) B) (receipts-le n o B l (w .1))
@@ -48,8 +48,8 @@ module _ (n : ℕ) (m : M) (g : Core n m) (o h : ℕ) (mine : m .owner o ≡ h +
   pub transit-least : (B : ℕ) → total (one receive o B) order + onWay n (m .pointers) B o ≤ m .transit B o
   transit-least B = omega (arith, g .home h .travel B o mine, total-le (one send o B) order (one-le send o B), few)
 
-  pub transit-most : (B : ℕ) → B < n → m .transit B o ≤ transitTop n
-  transit-most B l = omega (arith, g .home h .travel B o mine, receipts-le n o B order (g .home h .proper), ap length (sym (g .home h .lanes B)), g .short B h, way)
+  pub transit-up : (B : ℕ) → B < n → m .transit B o + total (one send o B) order ≤ transitTop n
+  transit-up B l = omega (arith, g .home h .travel B o mine, receipts-le n o B order (g .home h .proper), ap length (sym (g .home h .lanes B)), g .short B h, way)
     where
       way : onWay n (m .pointers) B o + pointerPlaces ≤ n * pointerPlaces
       way = unfold onWay in sum-le-but n pointerPlaces B (λ A. length (those (λ x. eqb x o) (m .pointers A B))) l
@@ -61,7 +61,7 @@ transit-range n m g B o l = go (m .owner o) refl
   where
     go : (k : ℕ) → m .owner o ≡ k → m .transit B o ≤ transitTop n
     go zero q = omega (arith, g .clean o q B .2)
-    go (suc h) q = transit-most n m g o h (omega arith) B l
+    go (suc h) q = omega (arith, transit-up n m g o h (omega arith) B l)
 
 -- what a hearing lowers stands above 0
 module _ (n : ℕ) (m : M) (g : Core n m) (A h : ℕ) {e : Event} {l : List Event} (lane : m .reports A h ≡ e ∷ l) where

@@ -81,8 +81,12 @@ row-le (suc n) c A f l q h = (let r : suc n - 1 ≡ n = omega arith in rw r (ome
 
 -- no lane longer than c, and none from a port to itself
 pub entries-le : {E : Type 0} (n c : ℕ) (f : Lanes E) → ((A B : ℕ) → length (f A B) ≤ c) → ((A : ℕ) → f A A ≡ []) → entries n f ≤ c * (n * (n - 1))
-entries-le n c f le self = omega (arith, sum-le n (c * (n - 1)) (λ A. sumTo n (λ B. length (f A B)))
-    (λ A l. row-le n c A (λ B. length (f A B)) l (ap length (self A)) (λ B _. le A B)), mul-left-comm n c (n - 1))
+entries-le n c f le self = omega (
+  arith,
+  sum-le n (c * (n - 1)) (λ A. sumTo n (λ B. length (f A B)))
+      (λ A l. row-le n c A (λ B. length (f A B)) l (ap length (self A)) (λ B _. le A B)),
+  mul-left-comm n c (n - 1),
+)
 
 -- a pointer weighs 2 and a report 1
 abbrev pub pointerWeight : Weight ℕ
@@ -100,8 +104,12 @@ unfolding settling
 settling-entries n m = omega (arith, weighed-even n 2 (m .pointers), weighed-even n 1 (m .reports))
 
 pub settling-le : (n : ℕ) (m : M) → Core n m → settling n m ≤ (2 * pointerPlaces + reportPlaces) * (n * (n - 1))
-settling-le n m g = omega (arith, settling-entries n m, entries-le n pointerPlaces (m .pointers) (g .lanes .narrow) (g .lanes .self)
-    , entries-le n reportPlaces (m .reports) (g .short) (λ A. g .home A .quiet))
+settling-le n m g = omega (
+  arith,
+  settling-entries n m,
+  entries-le n pointerPlaces (m .pointers) (g .lanes .narrow) (g .lanes .self),
+  entries-le n reportPlaces (m .reports) (g .short) (λ A. g .home A .quiet),
+)
 
 module _ (n : ℕ) where
   -- each hearing lowers the settling number by 1
