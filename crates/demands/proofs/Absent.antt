@@ -16,7 +16,7 @@ use Rattle.demands.specs.History.{those}
 use Rattle.demands.proofs.Lists.{All, all-map, all-both, all-those, total, length-nil}
 use Rattle.demands.proofs.Sums.{sum-term}
 use Rattle.demands.proofs.Order.{from, from-same, from-other, from-none, all-lanes, Fine, fine-more, fine-none, fine-head, fine-tail}
-use Rattle.demands.proofs.Events.{one, gain, loss, Proper, Active, Holder, transitCount, holderCount, roomCount, holder-or-receipt, one-object, loss-holder}
+use Rattle.demands.proofs.Events.{one, gain, loss, Proper, Active, transitCount, holderCount, roomCount, holder-or-receipt, one-object}
 use Rattle.demands.proofs.Events.{none-about, none-gained}
 use Rattle.demands.proofs.Model.{M, onWay, Owned}
 use Rattle.demands.proofs.Home.{Home}

@@ -1,81 +1,57 @@
 -- What the refusals leave of an act is enough for its event: lanes with a pointer more or less, room, and that the event can happen.
 -- Assumes nothing.
-use mathlib.Core.Path.{_≡_, refl, sym, ap, _∙_}
-use mathlib.Core.Bool.{Bool, true, false, cond}
-use mathlib.Core.List.{List, [], _∷_, _++_, nil≢cons}
-use Prim.Native.Nat.{ℕ, zero, suc, _+_, _≤_, _<_}
+use mathlib.Core.Path.{_≡_, refl, sym, _∙_}
+use mathlib.Core.List.{_∷_}
+use Prim.Native.Nat.{ℕ, _+_, _≤_, _<_}
 use native.Mathlib.Omega.{arith}
 use native.Mathlib.Decide.{ℕ-discrete, decLt}
-use lib.Dec.{eqb, ltb}
+use lib.Dec.{eqb}
 use lib.ListN.{length, length-append}
-use borrow.Author.Tests.{ltb-true, ltb-false, eqb-true}
-use Rattle.paper.specs.Paper.{Kind, send, receive, create, delete, number, Event}
-use Rattle.books.specs.Numbers.{first}
-use Rattle.books.specs.Books.{objectLimit, holdingLimit, transitZero}
+use borrow.Author.Tests.{eqb-true}
+use Rattle.paper.specs.Paper.{send, receive, create, delete, Event}
+use Rattle.books.proofs.Numbers.{first-most, first-at}
+use Rattle.books.specs.Books.{objectLimit, holdingLimit}
 use Rattle.lanes.specs.Lane.{pointerPlaces, reportPlaces}
-use Rattle.machine.specs.Acts.{Act, Name, MAKE, SEND, COPY, DROP, DELIVER, HEAR, ASK, RETIRE, SETTLE, HOLD, act, event, sending}
-use Rattle.demands.specs.History.{those}
-use Rattle.demands.proofs.Lists.{All, all-nil, all-map, total}
-use Rattle.demands.proofs.Order.{from, fine-none}
-use Rattle.demands.proofs.Events.{one, gain, loss, Proper, Holder, kinds-le, one-kind, one-object, one-concerns}
-use Rattle.demands.proofs.Model.{M, Lanes, SameLanes, Added, Taken, onWay, lowest, Happens, Heard, Owned, Same, Made, Effect}
-use Rattle.demands.proofs.Home.{Home, Can, home-hears-itself}
-use Rattle.demands.proofs.Absent.{Absent, Gone, Unnamed, Bare, absent-unnamed, absent-gone, gone-absent}
-use Rattle.demands.proofs.Sums.{added-way, taken-way, sum-zero}
-use Rattle.demands.proofs.Core.{Laned, laned-same, Core, event-core, hear-core, owned-core}
-use Rattle.demands.proofs.Steps.{Tellable, Used, Guard, MayMake, MaySend, MayCopy, MayDrop, MayDeliver, MayRetire, Step, step, Fresh, Reached, begin, next}
+use Rattle.machine.specs.Acts.{SEND, COPY, DROP, DELIVER, event, sending}
+use Rattle.demands.proofs.Events.{one, kinds-le, one-kind, one-concerns}
+use Rattle.demands.proofs.Model.{M, Lanes, SameLanes, Added, Taken, onWay, lowest, Effect}
+use Rattle.demands.proofs.Home.{Can}
+use Rattle.demands.proofs.Sums.{added-way, taken-way}
+use Rattle.demands.proofs.Core.{Laned, Core}
+use Rattle.demands.proofs.Steps.{Tellable, MaySend, MayCopy, MayDrop, MayDeliver}
 
 -- a port's true holding of an object and the pointers on the way to it are together within the limit
 abbrev pub Room : ℕ → M → Type 0
 Room n m = (p o : ℕ) → m .held p o + onWay n (m .pointers) p o ≤ holdingLimit
 
--- pointer lanes with a pointer more, or less
-module _ (n A B x : ℕ) (f g : Lanes ℕ) (w : Laned n f) where
-  nowhere : (X Y : ℕ) → f X Y ≡ [] → ¬ ((X ≡ A) × (Y ≡ B)) → ((X Y : ℕ) → ¬ ((X ≡ A) × (Y ≡ B)) → g X Y ≡ f X Y) → g X Y ≡ []
-  nowhere X Y q d rest = rest X Y d ∙ q
-
-  pub laned-added : A < n → B < n → ¬ (A ≡ B) → ¬ (length (f A B) ≡ pointerPlaces) → Added A B x f g → Laned n g
-  laned-added la lb d place t = record {
+-- pointer lanes of which one, between two ports, changes within its range
+module _ (n A B : ℕ) (f g : Lanes ℕ) (w : Laned n f) (la : A < n) (lb : B < n) (d : ¬ (A ≡ B)) (rest : (X Y : ℕ) → ¬ ((X ≡ A) × (Y ≡ B)) → g X Y ≡ f X Y) where
+  laned-changed : length (g A B) ≤ pointerPlaces → Laned n g
+  laned-changed k = record {
     narrow = λ X Y. narrow X Y (ℕ-discrete X A) (ℕ-discrete Y B);
-    self = λ X. nowhere X X (w .self X) (λ k. d (sym (k .0) ∙ k .1)) (t .rest);
-    sender = λ X Y l. nowhere X Y (w .sender X Y l) (λ k. omega (arith, k .0)) (t .rest);
-    receiver = λ X Y l. nowhere X Y (w .receiver X Y l) (λ k. omega (arith, k .1)) (t .rest);
+    self = λ X. rest X X (λ t. d (sym (t .0) ∙ t .1)) ∙ w .self X;
+    sender = λ X Y l. rest X Y (λ t. omega (arith, t .0)) ∙ w .sender X Y l;
+    receiver = λ X Y l. rest X Y (λ t. omega (arith, t .1)) ∙ w .receiver X Y l;
   }
     where
       narrow : (X Y : ℕ) → Dec (X ≡ A) → Dec (Y ≡ B) → length (g X Y) ≤ pointerPlaces
-      narrow X Y (no r) s = rw (t .rest X Y (λ k. r (k .0))) (w .narrow X Y)
-      narrow X Y (yes q) (no r) = rw (t .rest X Y (λ k. r (k .1))) (w .narrow X Y)
-      narrow X Y (yes q) (yes r) = rw (q, r, t .here, length-append) (omega (arith, w .narrow A B))
+      narrow X Y (no r) s = rw (rest X Y (λ t. r (t .0))) (w .narrow X Y)
+      narrow X Y (yes q) (no r) = rw (rest X Y (λ t. r (t .1))) (w .narrow X Y)
+      narrow X Y (yes q) (yes r) = rw (q, r) k
 
-  pub laned-taken : A < n → B < n → ¬ (A ≡ B) → Taken A B x f g → Laned n g
-  laned-taken la lb d t = record {
-    narrow = λ X Y. narrow X Y (ℕ-discrete X A) (ℕ-discrete Y B);
-    self = λ X. nowhere X X (w .self X) (λ k. d (sym (k .0) ∙ k .1)) (t .rest);
-    sender = λ X Y l. nowhere X Y (w .sender X Y l) (λ k. omega (arith, k .0)) (t .rest);
-    receiver = λ X Y l. nowhere X Y (w .receiver X Y l) (λ k. omega (arith, k .1)) (t .rest);
-  }
-    where
-      narrow : (X Y : ℕ) → Dec (X ≡ A) → Dec (Y ≡ B) → length (g X Y) ≤ pointerPlaces
-      narrow X Y (no r) s = rw (t .rest X Y (λ k. r (k .0))) (w .narrow X Y)
-      narrow X Y (yes q) (no r) = rw (t .rest X Y (λ k. r (k .1))) (w .narrow X Y)
-      narrow X Y (yes q) (yes r) = rw (q, r) (let k : length (x ∷ g A B) ≤ pointerPlaces = rw (t .here) at (w .narrow A B) in omega arith)
+-- with a pointer more, or less
+module _ (n A B x : ℕ) (f g : Lanes ℕ) (w : Laned n f) (la : A < n) (lb : B < n) (d : ¬ (A ≡ B)) where
+  pub laned-added : ¬ (length (f A B) ≡ pointerPlaces) → Added A B x f g → Laned n g
+  laned-added place t = laned-changed n A B f g w la lb d (t .rest) (rw (t .here, length-append) (omega (arith, w .narrow A B)))
 
--- the first number that passes, if it is below n, passes
-pub first-passes : (p : ℕ → Bool) (n : ℕ) → ¬ (first n p ≡ n) → (first n p < n) × (p (first n p) ≡ true)
-unfolding first
-first-passes p zero d = absurd (d refl)
-first-passes p (suc n) d = go (ltb (first n p) n) refl (p n) refl d (λ k. first-passes p n k)
-  where
-    go : (s : Bool) → ltb (first n p) n ≡ s → (t : Bool) → p n ≡ t → ¬ (cond s (first n p) (cond t n (suc n)) ≡ suc n)
-        → (¬ (first n p ≡ n) → (first n p < n) × (p (first n p) ≡ true))
-        → (cond s (first n p) (cond t n (suc n)) < suc n) × (p (cond s (first n p) (cond t n (suc n))) ≡ true)
-    go true q t r k ih = (omega (arith, ltb-true (first n p) n q), ih (λ e. omega (arith, ltb-true (first n p) n q)) .1)
-    go false q true r k ih = (omega arith, r)
-    go false q false r k ih = absurd (k refl)
+  pub laned-taken : Taken A B x f g → Laned n g
+  laned-taken t = laned-changed n A B f g w la lb d (t .rest) (let k : length (x ∷ g A B) ≤ pointerPlaces = rw (t .here) at (w .narrow A B) in omega arith)
 
 module _ (n : ℕ) where
   pub lowest-free : (m : M) → ¬ (lowest m ≡ objectLimit) → (lowest m < objectLimit) × (m .owner (lowest m) ≡ 0)
-  lowest-free m d = (let w = first-passes (λ o. eqb (m .owner o) 0) objectLimit d in (w .0, eqb-true (m .owner (lowest m)) 0 (w .1)))
+  lowest-free m d =
+      let l : lowest m < objectLimit = omega (arith, first-most (λ o. eqb (m .owner o) 0) objectLimit) in
+      (l, eqb-true (m .owner (lowest m)) 0 (first-at (λ o. eqb (m .owner o) 0) objectLimit l))
 
   -- room after an event: only a creation and a sending ask for it
   pub room-event : (e : Event) (m m′ : M) → Can n e m m′ → Room n m

@@ -2,7 +2,7 @@
 -- which follows (Range). Room is apart, since whole acts keep it, not events.
 -- Assumes nothing.
 use mathlib.Core.Path.{_≡_, refl, sym, ap, _∙_}
-use mathlib.Core.List.{List, [], _∷_, _++_}
+use mathlib.Core.List.{[], _∷_}
 use Prim.Native.Nat.{ℕ, _+_, _≤_, _<_}
 use native.Mathlib.Omega.{arith}
 use native.Mathlib.Decide.{ℕ-discrete, decLt}
@@ -10,10 +10,10 @@ use lib.ListN.{length, length-append}
 use Rattle.paper.specs.Paper.{Kind, send, receive, create, delete, Event}
 use Rattle.books.specs.Books.{holdingLimit, transitZero}
 use Rattle.lanes.specs.Lane.{pointerPlaces, reportPlaces}
-use Rattle.demands.proofs.Lists.{All, all-map, all-both, all-those, all-never}
-use Rattle.demands.proofs.Order.{from, from-at}
-use Rattle.demands.proofs.Events.{one, gain, loss, Proper, kinds-le, names-port, one-object, one-names}
-use Rattle.demands.proofs.Model.{M, Lanes, SameLanes, onWay, Happens, Heard, Owned}
+use Rattle.demands.proofs.Lists.{All, all-both, all-those, all-never}
+use Rattle.demands.proofs.Order.{from-at}
+use Rattle.demands.proofs.Events.{one, gain, Proper, kinds-le, names-port, one-object, one-names}
+use Rattle.demands.proofs.Model.{M, Lanes, SameLanes, onWay, Heard, Owned}
 use Rattle.demands.proofs.Home.{Home, Can, unconcerned, event-home}
 use Rattle.demands.proofs.Hearing.{oldest-named, oldest-proper, hear-home, hear-other}
 use Rattle.demands.proofs.Absent.{Unnamed, Bare, owned-home}

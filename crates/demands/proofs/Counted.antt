@@ -2,23 +2,22 @@
 -- the counts of what happened, the books those of what the home has heard.
 -- Assumes nothing.
 use mathlib.Core.Path.{_≡_, refl, sym, ap, _∙_}
-use mathlib.Core.Bool.{Bool, true, false, cond, _&&_}
+use mathlib.Core.Bool.{Bool, true, false, cond}
 use mathlib.Core.List.{List, [], _∷_, _++_}
-use Prim.Native.Nat.{ℕ, _+_, _≤_, _<_}
+use Prim.Native.Nat.{ℕ, _+_}
 use native.Mathlib.Omega.{arith}
 use native.Mathlib.Decide.{ℕ-discrete}
 use lib.Dec.{eqb}
-use lib.ListN.{length, getD, take}
+use lib.ListN.{take}
 use borrow.Author.Tests.{eq-eqb, ne-eqb}
-use Rattle.paper.specs.Paper.{Kind, send, receive, create, delete, Event, count, Any, May, Legal, none, made, more}
+use Rattle.paper.specs.Paper.{Kind, send, receive, create, delete, Event, count}
 use Rattle.books.specs.Books.{transitZero}
 use Rattle.machine.specs.Acts.{Act, Name, MAKE, SEND, COPY, DROP, DELIVER, HEAR, ASK, RETIRE, SETTLE, HOLD, act, is, event, sending}
-use Rattle.demands.specs.History.{those, owner, nextFree, undelivered, unheard, eventsOf, learnt, since, happened, heard}
-use Rattle.demands.proofs.Events.{one, gain, loss, count-more, count-none, one-object, one-self, one-kind}
-use Rattle.demands.proofs.Model.{M, onWay, lowest, Hears, Deaf, Happens, Heard, Owned, Same, Made, Effect}
+use Rattle.demands.specs.History.{those, owner, nextFree, eventsOf, learnt, since, happened, heard}
+use Rattle.demands.proofs.Events.{one, count-more, count-none, one-object, one-kind}
+use Rattle.demands.proofs.Model.{M, onWay, lowest, Deaf, Made, Effect}
 use Rattle.demands.proofs.Home.{Can}
-use Rattle.demands.proofs.Sums.{taken-way}
-use Rattle.demands.proofs.Steps.{Guard, MayMake, Step, step, Fresh, Reached, begin, next}
+use Rattle.demands.proofs.Steps.{Guard, MayMake, step, Reached, begin, next}
 use Rattle.demands.proofs.Acts.{lowest-free, same-way, send-can, copy-can, drop-can, deliver-can}
 use Rattle.demands.proofs.Kept.{Kept, reached-kept}
 use Rattle.demands.proofs.Left.{Follows, next-lowest, oldest-left, act-follows, reached-follows}

@@ -6,24 +6,23 @@ use mathlib.Core.Bool.{true, cond}
 use mathlib.Core.List.{List, [], _∷_}
 use Prim.Native.Nat.{ℕ, zero, suc, _+_, _*_, _≤_, _<_}
 use native.Mathlib.Omega.{arith}
-use native.Mathlib.Decide.{ℕ-discrete, decLt}
+use native.Mathlib.Decide.{ℕ-discrete}
 use lib.Dec.{eqb}
 use lib.ListN.{length}
 use borrow.Author.Tests.{lt-ltb, eq-eqb, ne-eqb}
 use Rattle.paper.specs.Paper.{Kind, send, receive, create, delete, Event}
 use Rattle.books.specs.Numbers.{sumTo}
-use Rattle.books.specs.Books.{holdingLimit, transitZero, transitTop}
+use Rattle.books.specs.Books.{holdingLimit, transitTop}
 use Rattle.books.specs.Counters.{holdingFits, transitFits}
-use Rattle.lanes.specs.Lane.{pointerPlaces, reportPlaces}
+use Rattle.lanes.specs.Lane.{pointerPlaces}
 use Rattle.demands.specs.History.{those}
-use Rattle.demands.proofs.Lists.{All, all-map, length-nil, length-those, total-more}
+use Rattle.demands.proofs.Lists.{length-those}
 use Rattle.demands.proofs.Order.{from, fine-head, total-without}
-use Rattle.demands.proofs.Events.{one, gain, loss, Names, Holder, roomCount, holderCount, one-le, one-self}
+use Rattle.demands.proofs.Events.{one, gain, Names, roomCount, one-self}
 use Rattle.demands.proofs.Sums.{sum-grown, sum-le-but}
 use Rattle.demands.proofs.Model.{M, onWay}
-use Rattle.demands.proofs.Home.{home-hears-itself}
 use Rattle.demands.proofs.Hearing.{oldest-named, oldest-at, oldest-proper}
-use Rattle.demands.proofs.Absent.{Absent, Gone, Unnamed, absent-gone, gone-pointers}
+use Rattle.demands.proofs.Absent.{Gone, Unnamed, absent-gone, gone-pointers}
 use Rattle.demands.proofs.Core.{Core}
 use Rattle.demands.proofs.Range.{receipts-le, transit-least, transit-up, hear-transit, hear-holding}
 use Rattle.demands.proofs.Steps.{MaySend, MayDeliver, MayRetire}

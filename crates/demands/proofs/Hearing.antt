@@ -1,6 +1,6 @@
 -- A hearing keeps what every home looks at, and what it lowers stands above 0.
 -- Assumes nothing.
-use mathlib.Core.Path.{_≡_, refl, sym, ap, _∙_}
+use mathlib.Core.Path.{_≡_, sym, ap, _∙_}
 use mathlib.Core.List.{List, [], _∷_, nil≢cons}
 use Prim.Native.Nat.{ℕ, _+_, _≤_, _<_}
 use native.Mathlib.Omega.{arith}
@@ -11,8 +11,8 @@ use Rattle.demands.proofs.Lists.{All, all-map, total, total-more}
 use Rattle.demands.proofs.Order.{from, front-at, front-has, without, without-same, without-other, all-without, total-without}
 use Rattle.demands.proofs.Order.{Fine, fine-more, fine-head, fine-tail, fine-early}
 use Rattle.demands.proofs.Events.{one, gain, loss, Proper, transitCount, holderCount, roomCount, at-other, kinds-le, one-object}
-use Rattle.demands.proofs.Model.{M, onWay, Hears, Taken, Heard}
-use Rattle.demands.proofs.Home.{Home, Untouched, untouched-home}
+use Rattle.demands.proofs.Model.{M, onWay, Heard}
+use Rattle.demands.proofs.Home.{Home, untouched-home}
 
 -- e is the oldest report from A to h, a home; l are the others
 module _ (n A h : ℕ) (m : M) (i : Home n h m) {e : Event} {l : List Event} (lane : m .reports A h ≡ e ∷ l) where

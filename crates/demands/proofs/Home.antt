@@ -3,17 +3,17 @@
 -- in which no receipt takes a transit below 0; a port's holdings depend on its own lane alone.
 -- Assumes nothing.
 use mathlib.Core.Path.{_≡_, refl, sym, ap, _∙_}
-use mathlib.Core.List.{List, [], _∷_, _++_, nil≢cons}
+use mathlib.Core.List.{List, [], _∷_, _++_}
 use Prim.Native.Nat.{ℕ, _+_, _≤_, _<_}
 use native.Mathlib.Omega.{arith}
 use native.Mathlib.Decide.{ℕ-discrete, decLt}
 use Rattle.paper.specs.Paper.{Kind, send, receive, create, delete, Event}
 use Rattle.books.specs.Books.{holdingLimit, transitZero}
-use Rattle.demands.proofs.Lists.{All, all-nil, all-snoc, all-head, all-map, all-both, all-those, total, total-snoc}
-use Rattle.demands.proofs.Order.{from, from-none, from-snoc, from-skip, front-at, without, without-same, without-other, all-without, total-without}
-use Rattle.demands.proofs.Order.{Count, Fine, fine-more, fine-snoc, fine-none, fine-head, fine-tail, fine-early}
-use Rattle.demands.proofs.Events.{one, gain, loss, Proper, Holder, transitCount, holderCount, roomCount, at-other, kinds-le, one-object, one-names}
-use Rattle.demands.proofs.Model.{M, onWay, Hears, Happens, Heard}
+use Rattle.demands.proofs.Lists.{All, all-nil, all-snoc, all-map, all-both, total, total-snoc}
+use Rattle.demands.proofs.Order.{from, from-none, from-snoc, from-skip}
+use Rattle.demands.proofs.Order.{Fine, fine-more, fine-snoc, fine-none}
+use Rattle.demands.proofs.Events.{one, gain, loss, Proper, Holder, transitCount, holderCount, roomCount, at-other, kinds-le, one-object}
+use Rattle.demands.proofs.Model.{M, onWay, Hears, Happens}
 
 -- the holding of o that the home has heard that X has, the reports of X's lane to h counted in, is X's true holding
 abbrev pub Holdings : ℕ → ℕ → ℕ → M → Type 0

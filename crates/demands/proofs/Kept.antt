@@ -1,25 +1,23 @@
 -- Every act keeps Core and room, so all that well formed asks holds of every model that acts reach: refusal 14 is never met.
 -- Assumes nothing.
 use mathlib.Core.Path.{_≡_, refl, sym, ap, _∙_}
-use mathlib.Core.List.{List, [], _∷_}
+use mathlib.Core.List.{List, []}
 use Prim.Native.Nat.{ℕ, zero, suc, _+_, _≤_, _<_}
 use native.Mathlib.Omega.{arith}
 use native.Mathlib.Decide.{ℕ-discrete, decLt}
 use lib.Dec.{eqb}
 use lib.ListN.{length}
 use Rattle.paper.specs.Paper.{send, receive, create, delete, Event}
-use Rattle.books.specs.Books.{objectLimit, holdingLimit, transitZero}
-use Rattle.machine.specs.Acts.{Act, Name, MAKE, SEND, COPY, DROP, DELIVER, HEAR, ASK, RETIRE, SETTLE, HOLD, act, event, sending}
+use Rattle.machine.specs.Acts.{Act, Name, MAKE, SEND, COPY, DROP, DELIVER, HEAR, ASK, RETIRE, SETTLE, HOLD, event, sending}
 use Rattle.demands.specs.History.{those}
-use Rattle.demands.proofs.Lists.{all-nil, all-map, total}
-use Rattle.demands.proofs.Order.{fine-none}
-use Rattle.demands.proofs.Events.{one, one-kind, one-self, one-concerns}
-use Rattle.demands.proofs.Model.{M, Lanes, Taken, onWay, lowest, Heard, Owned, Same, Made, Effect}
-use Rattle.demands.proofs.Home.{Home, Can, untouched-home, home-hears-itself}
+use Rattle.demands.proofs.Lists.{all-nil, all-map}
+use Rattle.demands.proofs.Events.{one-kind, one-self, one-concerns}
+use Rattle.demands.proofs.Model.{M, Lanes, Taken, onWay, lowest, Owned, Same, Made, Effect}
+use Rattle.demands.proofs.Home.{Can, untouched-home, home-hears-itself}
 use Rattle.demands.proofs.Absent.{Absent, Gone, Unnamed, Bare, absent-unnamed, absent-gone}
 use Rattle.demands.proofs.Sums.{taken-way, sum-zero}
 use Rattle.demands.proofs.Core.{Laned, laned-same, Core, event-core, hear-core, owned-core}
-use Rattle.demands.proofs.Steps.{Guard, MayMake, MaySend, MayDeliver, MayRetire, Step, step, Fresh, Reached, begin, next}
+use Rattle.demands.proofs.Steps.{Guard, MayMake, MayRetire, step, Fresh, Reached, begin, next}
 use Rattle.demands.proofs.Acts.{Room, laned-added, laned-taken, lowest-free, room-event, place, same-way, send-can, copy-can, drop-can, deliver-can}
 
 -- what every act keeps

@@ -4,19 +4,17 @@
 use mathlib.Core.Path.{_≡_, refl, sym, ap, _∙_}
 use mathlib.Core.Bool.{Bool, true, false, cond, not, _&&_}
 use mathlib.Core.List.{List, [], _∷_, _++_, append-nil}
-use Prim.Native.Nat.{ℕ, _+_, _≤_, _<_}
+use Prim.Native.Nat.{ℕ, _+_}
 use native.Mathlib.Omega.{arith}
 use native.Mathlib.Decide.{ℕ-discrete}
 use lib.Dec.{eqb}
-use lib.ListN.{length, getD}
+use lib.ListN.{getD}
 use borrow.Author.Tests.{eq-eqb, ne-eqb}
 use Rattle.paper.specs.Paper.{Event, receive, create, delete}
-use Rattle.books.specs.Numbers.{first}
-use Rattle.books.specs.Books.{objectLimit}
 use Rattle.machine.specs.Acts.{Act, Name, MAKE, SEND, COPY, DROP, DELIVER, HEAR, ASK, RETIRE, SETTLE, HOLD, act, is, event, sending}
-use Rattle.demands.specs.History.{those, owner, nextFree, times, sent, told, undelivered, unheard, eventsOf}
-use Rattle.demands.proofs.Model.{M, Added, Taken, lowest, Happens, Heard, Owned, Same, Made, Effect}
-use Rattle.demands.proofs.Steps.{Step, step, Fresh, Reached, begin, next}
+use Rattle.demands.specs.History.{owner, nextFree, times, sent, told, undelivered, unheard, eventsOf}
+use Rattle.demands.proofs.Model.{M, Added, Taken, lowest, Happens, Owned, Same, Made, Effect}
+use Rattle.demands.proofs.Steps.{step, Reached, begin, next}
 use Rattle.demands.proofs.History.{Left, left-added, left-taken, owner-other, owner-made, owner-retired, times-other, times-here, times-there, sent-other, sent-here, sent-there, told-none, told-event}
 
 -- the history of acts and the model that they reach say the same

@@ -2,21 +2,21 @@
 -- what happened about an object in use is a legal event set.
 -- Assumes nothing.
 use mathlib.Core.Path.{_≡_, refl, sym, ap, _∙_, subst}
-use mathlib.Core.Bool.{Bool, true, false, cond}
+use mathlib.Core.Bool.{false, cond}
 use mathlib.Core.Logic.{_↔_}
 use mathlib.Core.List.{List, [], _∷_}
-use Prim.Native.Nat.{ℕ, _+_, _≤_, _<_}
+use Prim.Native.Nat.{ℕ, _+_, _<_}
 use native.Mathlib.Omega.{arith}
 use native.Mathlib.Decide.{ℕ-discrete}
 use lib.Dec.{eqb}
 use lib.ListN.{length}
 use borrow.Author.Tests.{eq-eqb, ne-eqb}
-use Rattle.paper.specs.Paper.{send, receive, create, delete, Event, count, Any, May, Legal, made, more}
+use Rattle.paper.specs.Paper.{receive, create, delete, Event, Any, May, Legal, made, more}
 use Rattle.machine.specs.Acts.{Act, Name, MAKE, SEND, COPY, DROP, DELIVER, HEAR, ASK, RETIRE, SETTLE, HOLD, act, is, event, sending}
 use Rattle.demands.specs.History.{those, eventsOf, happened}
 use Rattle.demands.proofs.Sums.{sum-term, pointers-front}
-use Rattle.demands.proofs.Model.{M, onWay, lowest, Happens, Owned, Made, Effect}
-use Rattle.demands.proofs.Steps.{Guard, Step, step, Fresh, Reached, begin, next}
+use Rattle.demands.proofs.Model.{M, onWay, lowest, Made, Effect}
+use Rattle.demands.proofs.Steps.{Guard, step, Reached, begin, next}
 use Rattle.demands.proofs.Left.{Follows, next-lowest, oldest-left, reached-follows}
 use Rattle.demands.proofs.Counted.{Counted, since-event, since-none, since-made, since-others, reached-counted}
 

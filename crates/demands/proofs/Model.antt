@@ -4,14 +4,13 @@
 -- Assumes nothing.
 use mathlib.Core.Path.{_≡_}
 use mathlib.Core.List.{List, [], _∷_, _++_}
-use Prim.Native.Nat.{ℕ, _+_, _≤_, _<_}
+use Prim.Native.Nat.{ℕ, _+_}
 use lib.Dec.{eqb}
 use lib.ListN.{length}
 use Rattle.paper.specs.Paper.{send, receive, create, delete, Event}
 use Rattle.books.specs.Numbers.{first, sumTo}
-use Rattle.books.specs.Books.{objectLimit, holdingLimit, transitZero}
-use Rattle.lanes.specs.Lane.{pointerPlaces, reportPlaces}
-use Rattle.machine.specs.Acts.{Act, Name, MAKE, SEND, COPY, DROP, DELIVER, HEAR, ASK, RETIRE, SETTLE, HOLD, act, event, sending}
+use Rattle.books.specs.Books.{objectLimit}
+use Rattle.machine.specs.Acts.{Name, MAKE, SEND, COPY, DROP, DELIVER, HEAR, ASK, RETIRE, SETTLE, HOLD, event, sending}
 use Rattle.demands.specs.History.{those}
 use Rattle.demands.proofs.Events.{one, gain, loss}
 

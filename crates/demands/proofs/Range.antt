@@ -7,17 +7,16 @@ use native.Mathlib.Omega.{arith}
 use native.Mathlib.Decide.{ℕ-discrete, decLt}
 use lib.Dec.{eqb}
 use lib.ListN.{length}
-use Rattle.paper.specs.Paper.{send, receive, create, delete, Event}
-use Rattle.books.specs.Numbers.{sumTo}
+use Rattle.paper.specs.Paper.{send, receive, delete, Event}
 use Rattle.books.specs.Books.{transitZero, transitTop}
 use Rattle.lanes.specs.Lane.{pointerPlaces, reportPlaces}
 use Rattle.demands.specs.History.{those}
 use Rattle.demands.proofs.Lists.{All, all-map, total, total-le, length-those}
 use Rattle.demands.proofs.Order.{from, from-same, from-other, fine-head, total-without}
-use Rattle.demands.proofs.Events.{one, gain, loss, Proper, Holder, holderCount, one-le, at-other, one-concerns, loss-holder}
+use Rattle.demands.proofs.Events.{one, loss, Proper, Holder, holderCount, one-le, at-other, one-concerns, loss-holder}
 use Rattle.demands.proofs.Sums.{sum-le-but, length-from}
 use Rattle.demands.proofs.Model.{M, onWay}
-use Rattle.demands.proofs.Home.{Home, home-hears-itself}
+use Rattle.demands.proofs.Home.{home-hears-itself}
 use Rattle.demands.proofs.Hearing.{oldest-named, oldest-at, oldest-proper}
 use Rattle.demands.proofs.Core.{Core}
 

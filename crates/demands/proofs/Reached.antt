@@ -1,30 +1,29 @@
 -- Demands 2 and 3 on every model that acts reach, sentence by sentence.
 -- Assumes nothing.
-use mathlib.Core.Path.{_≡_, refl, sym, ap, _∙_}
-use mathlib.Core.Bool.{false}
-use mathlib.Core.Logic.{_⊎_, _↔_}
+use mathlib.Core.Path.{_≡_, ap, _∙_}
+use mathlib.Core.Logic.{_↔_}
 use mathlib.Core.List.{List, [], _∷_}
-use Prim.Native.Nat.{ℕ, _+_, _-_, _*_, _≤_, _<_}
+use Prim.Native.Nat.{ℕ, _+_, _<_}
 use native.Mathlib.Omega.{arith}
 use native.Mathlib.Decide.{ℕ-discrete}
 use lib.Dec.{eqb}
 use lib.IntN.{pos, _+ℤ_}
 use borrow.Author.Tests.{ne-eqb}
-use Rattle.paper.specs.Paper.{Event, receive, Any, May, Legal, Absence, inTransit, pointersTo}
+use Rattle.paper.specs.Paper.{receive, Any, May, Absence, inTransit, pointersTo}
 use Rattle.paper.proofs.Paper.{holding-is, transit-is}
 use Rattle.books.specs.Books.{transitZero}
 use Rattle.machine.specs.Acts.{Act, event}
 use Rattle.demands.specs.History.{those, undelivered, happened, heard}
-use Rattle.demands.proofs.Lists.{All, all-map, those-none}
-use Rattle.demands.proofs.Model.{M, onWay}
+use Rattle.demands.proofs.Lists.{all-map, those-none}
+use Rattle.demands.proofs.Model.{M}
 use Rattle.demands.proofs.Absent.{Gone, Unnamed, absent-gone, gone-pointers}
 use Rattle.demands.proofs.Core.{Core, report-named}
-use Rattle.demands.proofs.Steps.{Reached, MayHear, MayDeliver}
-use Rattle.demands.proofs.Kept.{Kept, reached-kept}
+use Rattle.demands.proofs.Steps.{Reached}
+use Rattle.demands.proofs.Kept.{reached-kept}
 use Rattle.demands.proofs.Counted.{Counted, reached-counted}
 use Rattle.demands.proofs.Left.{pointers-left}
 use Rattle.demands.proofs.Legal.{holds-any, way-may, waiting-way}
-use Rattle.demands.proofs.Verdict.{verdictOf, SaysAbsent, says-absent, absent-is-absence}
+use Rattle.demands.proofs.Verdict.{SaysAbsent, says-absent, absent-is-absence}
 
 module _ (n : ℕ) (acts : List Act) (m : M) (r : Reached n acts m) where
   core : Core n m

@@ -3,20 +3,20 @@
 -- Assumes nothing.
 use mathlib.Core.Path.{_≡_, refl, sym, ap, _∙_}
 use mathlib.Core.Logic.{_⊎_, inl, inr, _↔_}
-use mathlib.Core.List.{List, [], _∷_, _++_, nil≢cons}
+use mathlib.Core.List.{List, [], _∷_}
 use Prim.Native.Nat.{ℕ, zero, suc, _+_, _-_, _*_, _≤_, _<_}
 use native.Mathlib.Nat.{mul-left-comm}
 use native.Mathlib.Omega.{arith}
 use native.Mathlib.Decide.{ℕ-discrete, decLt}
 use lib.Dec.{eqb}
-use lib.ListN.{length, length-append}
+use lib.ListN.{length}
 use Rattle.paper.specs.Paper.{Event, receive}
 use Rattle.books.specs.Numbers.{sumTo}
 use Rattle.books.proofs.Numbers.{sum-ext}
 use Rattle.lanes.specs.Lane.{pointerPlaces, reportPlaces}
 use Rattle.machine.specs.Acts.{DELIVER, event}
 use Rattle.demands.specs.History.{those}
-use Rattle.demands.proofs.Lists.{All, all-nil, total, total-more, total-snoc, length-nil}
+use Rattle.demands.proofs.Lists.{all-nil, total, total-more, total-snoc, length-nil}
 use Rattle.demands.proofs.Sums.{sum-grown, sum-le, sum-le-but, sum-term, sum-find, sum-zero}
 use Rattle.demands.proofs.Model.{M, Lanes, SameLanes, Added, Taken, onWay, Happens, Heard, Effect}
 use Rattle.demands.proofs.Absent.{Gone, absent-gone, gone-absent}
@@ -119,8 +119,8 @@ module _ (n : ℕ) where
       omega (arith, weighed-same n pointerWeight (m .pointers) (m′ .pointers) (t .pointers), weighed-taken n A B e reportWeight (m .reports) (m′ .reports) la lb (t .taken))
 
   -- an event adds at most one report
-  event-reports : (e : Event) (m m′ : M) → e .at < n → m .owner (e .object) ≤ n → Happens e m m′ → weighed n reportWeight (m′ .reports) ≤ weighed n reportWeight (m .reports) + 1
-  event-reports e m m′ la lo t = go (m .owner (e .object)) refl
+  event-adds : (e : Event) (m m′ : M) → e .at < n → m .owner (e .object) ≤ n → Happens e m m′ → weighed n reportWeight (m′ .reports) ≤ weighed n reportWeight (m .reports) + 1
+  event-adds e m m′ la lo t = go (m .owner (e .object)) refl
     where
       same : ((A B : ℕ) → m′ .reports A B ≡ m .reports A B) → weighed n reportWeight (m′ .reports) ≤ weighed n reportWeight (m .reports) + 1
       same s = omega (arith, weighed-same n reportWeight (m .reports) (m′ .reports) s)
@@ -141,7 +141,7 @@ module _ (n : ℕ) where
   pub deliver-lowers : (A o B : ℕ) (m m′ : M) → Core n m → A < n → B < n → Effect DELIVER A o B m m′ → settling n m′ < settling n m
   unfolding settling
   deliver-lowers A o B m m′ g la lb t =
-      omega (arith, weighed-taken n A B (t .0) pointerWeight (m .pointers) (m′ .pointers) la lb (t .1), event-reports (event receive (t .0) B) m m′ lb (g .owners (t .0)) (t .2))
+      omega (arith, weighed-taken n A B (t .0) pointerWeight (m .pointers) (m′ .pointers) la lb (t .1), event-adds (event receive (t .0) B) m m′ lb (g .owners (t .0)) (t .2))
 
   -- nothing travels
   abbrev pub Still : M → Type 0

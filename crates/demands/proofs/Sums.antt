@@ -1,6 +1,6 @@
 -- Sums over the ports below n, and over the lanes between them.
 -- Assumes nothing.
-use mathlib.Core.Path.{_≡_, refl, sym, ap, _∙_}
+use mathlib.Core.Path.{_≡_, refl, sym, _∙_}
 use mathlib.Core.Bool.{Bool, true, false, cond, _&&_}
 use mathlib.Core.List.{List, [], _∷_, _++_}
 use Prim.Native.Nat.{ℕ, zero, suc, _+_, _*_, _≤_, _<_}
@@ -14,7 +14,7 @@ use Rattle.books.specs.Numbers.{sumTo}
 use Rattle.books.proofs.Numbers.{sum-ext}
 use Rattle.machine.specs.Acts.{event, sending}
 use Rattle.demands.specs.History.{those}
-use Rattle.demands.proofs.Lists.{All, length-nil, those-append}
+use Rattle.demands.proofs.Lists.{All, those-append}
 use Rattle.demands.proofs.Order.{from, from-same, from-other}
 use Rattle.demands.proofs.Events.{one}
 use Rattle.demands.proofs.Model.{Lanes, Added, Taken, onWay}
@@ -94,46 +94,36 @@ pointers-front o x l = go (eqb x o) refl
     go true q = unfold those in rw q (omega arith)
     go false q = unfold those in rw q (omega arith)
 
--- the pointers on the way once one is added, or taken: what the sending, or the receipt, adds to 004's count
+-- the pointers on the way once one lane, from A to B, has one of x more
+module _ (n A B x : ℕ) (f g : Lanes ℕ) (port : A < n) (rest : (X Y : ℕ) → ¬ ((X ≡ A) × (Y ≡ B)) → g X Y ≡ f X Y)
+    (more : (o : ℕ) → length (those (λ y. eqb y o) (g A B)) ≡ length (those (λ y. eqb y o) (f A B)) + cond (eqb x o) 1 0) where
+  way-grown : (p o : ℕ) → onWay n g p o ≡ onWay n f p o + cond (eqb x o && eqb B p) 1 0
+  unfolding onWay
+  way-grown p o = go (ℕ-discrete p B)
+    where
+      both : (b : Bool) (k : ℕ) → k + cond b 1 0 ≡ k + cond (b && true) 1 0
+      both true k = refl
+      both false k = refl
+
+      none : (b : Bool) (k : ℕ) → k ≡ k + cond (b && false) 1 0
+      none true k = omega arith
+      none false k = omega arith
+
+      go : Dec (p ≡ B) → sumTo n (λ X. length (those (λ y. eqb y o) (g X p))) ≡ sumTo n (λ X. length (those (λ y. eqb y o) (f X p))) + cond (eqb x o && eqb B p) 1 0
+      go (yes q) =
+          rw (q, eq-eqb B B refl) (sum-grown n A (cond (eqb x o && true) 1 0) (λ X. length (those (λ y. eqb y o) (f X B))) (λ X. length (those (λ y. eqb y o) (g X B))) port
+          (more o ∙ both (eqb x o) (length (those (λ y. eqb y o) (f A B)))) (λ X d. rw (rest X B (λ k. d (k .0)))))
+      go (no d) =
+          rw (ne-eqb B p (λ r. d (sym r)))
+          (sum-ext (λ X. length (those (λ y. eqb y o) (g X p))) (λ X. length (those (λ y. eqb y o) (f X p))) n (λ X _. rw (rest X p (λ k. d (k .1))))
+          ∙ none (eqb x o) (sumTo n (λ X. length (those (λ y. eqb y o) (f X p)))))
+
+-- once one is added, or taken: what the sending, or the receipt, adds to 004's count
 module _ (n A B x : ℕ) (f g : Lanes ℕ) (port : A < n) where
   pub added-way : Added A B x f g → (p o : ℕ) → onWay n g p o ≡ onWay n f p o + one send o p (sending x A B)
-  unfolding onWay one
-  added-way t p o = go (ℕ-discrete p B)
-    where
-      go : Dec (p ≡ B) → sumTo n (λ X. length (those (λ y. eqb y o) (g X p))) ≡ sumTo n (λ X. length (those (λ y. eqb y o) (f X p))) + cond (eqb x o && eqb B p) 1 0
-      go (yes q) = rw (q, eq-eqb B B refl) (sum-grown n A (cond (eqb x o && true) 1 0) (λ X. length (those (λ y. eqb y o) (f X B))) (λ X. length (those (λ y. eqb y o) (g X B))) port
-          (rw (t .here) (pointers-snoc o x (f A B) ∙ both (eqb x o))) (λ X d. rw (t .rest X B (λ k. d (k .0)))))
-        where
-          both : (b : Bool) → length (those (λ y. eqb y o) (f A B)) + cond b 1 0 ≡ length (those (λ y. eqb y o) (f A B)) + cond (b && true) 1 0
-          both true = refl
-          both false = refl
-      go (no d) = rw (
-        ne-eqb B p (λ r. d (sym r)),
-        sum-ext (λ X. length (those (λ y. eqb y o) (g X p))) (λ X. length (those (λ y. eqb y o) (f X p))) n
-            (λ X _. rw (t .rest X p (λ k. d (k .1)))),
-      ) (none (eqb x o))
-        where
-          none : (b : Bool) → sumTo n (λ X. length (those (λ y. eqb y o) (f X p))) ≡ sumTo n (λ X. length (those (λ y. eqb y o) (f X p))) + cond (b && false) 1 0
-          none true = omega arith
-          none false = omega arith
+  unfolding one
+  added-way t = way-grown n A B x f g port (t .rest) (λ o. rw (t .here) (pointers-snoc o x (f A B)))
 
   pub taken-way : Taken A B x f g → (p o : ℕ) → onWay n g p o + one receive o p (event receive x B) ≡ onWay n f p o
-  unfolding onWay one
-  taken-way t p o = go (ℕ-discrete p B)
-    where
-      go : Dec (p ≡ B) → sumTo n (λ X. length (those (λ y. eqb y o) (g X p))) + cond (eqb x o && eqb B p) 1 0 ≡ sumTo n (λ X. length (those (λ y. eqb y o) (f X p)))
-      go (yes q) = rw (q, eq-eqb B B refl) (sym (sum-grown n A (cond (eqb x o && true) 1 0) (λ X. length (those (λ y. eqb y o) (g X B))) (λ X. length (those (λ y. eqb y o) (f X B))) port
-          (rw (t .here) (pointers-front o x (g A B) ∙ both (eqb x o))) (λ X d. rw (t .rest X B (λ k. d (k .0))))))
-        where
-          both : (b : Bool) → length (those (λ y. eqb y o) (g A B)) + cond b 1 0 ≡ length (those (λ y. eqb y o) (g A B)) + cond (b && true) 1 0
-          both true = refl
-          both false = refl
-      go (no d) = rw (
-        ne-eqb B p (λ r. d (sym r)),
-        sum-ext (λ X. length (those (λ y. eqb y o) (g X p))) (λ X. length (those (λ y. eqb y o) (f X p))) n
-            (λ X _. rw (t .rest X p (λ k. d (k .1)))),
-      ) (none (eqb x o))
-        where
-          none : (b : Bool) → sumTo n (λ X. length (those (λ y. eqb y o) (f X p))) + cond (b && false) 1 0 ≡ sumTo n (λ X. length (those (λ y. eqb y o) (f X p)))
-          none true = omega arith
-          none false = omega arith
+  unfolding one
+  taken-way t p o = sym (way-grown n A B x g f port (λ X Y d. sym (t .rest X Y d)) (λ q. rw (t .here) (pointers-front q x (g A B))) p o)
