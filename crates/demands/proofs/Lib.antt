@@ -20,3 +20,16 @@ pub mod Verdict
 pub mod Settle
 pub mod Fits
 pub mod Reached
+pub mod Bridge
+pub mod BridgeCounts
+pub mod BridgeReports
+pub mod BridgeRows
+pub mod BridgeEvents
+pub mod BridgeHappens
+pub mod BridgeFormed
+pub mod BridgeActs
+pub mod BridgeEffects
+pub mod BridgeChecks
+pub mod BridgeGuards
+pub mod BridgeFresh
+pub mod Run

@@ -1,0 +1,200 @@
+-- What an act's silent checks leave of it is the model's guard; of a delivery and of a hearing the guard is also enough.
+-- Assumes nothing.
+use mathlib.Core.Path.{_≡_, refl, sym, subst, ap, _∙_}
+use mathlib.Core.Bool.{Bool, true, false, cond, not, _||_, true≢false}
+use mathlib.Core.List.{List, [], _∷_}
+use Prim.Native.Nat.{ℕ, _+_, _-_, _*_, _≤_, _<_}
+use native.Mathlib.Omega.{arith}
+use native.Mathlib.Decide.{ℕ-discrete}
+use lib.Dec.{ltb, eqb}
+use lib.ListN.{length, getD}
+use borrow.Author.Tests.{ltb-false, eqb-true, eq-eqb, ne-eqb, not-false}
+use Rattle.paper.specs.Paper.{Event, receive, create, delete}
+use Rattle.books.specs.Numbers.{first}
+use Rattle.books.specs.Books.{objectLimit, transitZero, against, lowestAgainst}
+use Rattle.books.proofs.Booleans.{left-false, right-false}
+use Rattle.books.proofs.Numbers.{first-before}
+use Rattle.lanes.specs.Lane.{pointerPlaces, reportPlaces, pointerWidth, count, entry}
+use Rattle.lanes.proofs.Entries.{entries-taken, list-length}
+use Rattle.store.specs.Layout.{pointers, read}
+use Rattle.store.specs.Store.{wellFormed, objectByte, home, heldOf, heardOf, transitOf}
+use Rattle.store.proofs.Frame.{lane-inside, view, view-in}
+use Rattle.machine.specs.Acts.{Name, act, rowOf, event, sending, MAKE, SEND, COPY, DROP, DELIVER, HEAR, ASK, RETIRE, SETTLE, HOLD}
+use Rattle.machine.specs.Effects.{oldestPointer}
+use Rattle.machine.specs.Machine.{standing, rule}
+use Rattle.machine.proofs.Firsts.{NoneOf}
+use Rattle.demands.proofs.Model.{M}
+use Rattle.demands.proofs.Steps.{Used, MayRetire, Guard}
+use Rattle.demands.proofs.Bridge.{model, long-viewed, owner-is, held-is, heard-is, transit-is}
+use Rattle.demands.proofs.BridgeFormed.{seen, owner-low, pointers-lane, oldest-used}
+use Rattle.demands.proofs.BridgeChecks.{
+  port-check,
+  ports-check,
+  object-check,
+  used-check,
+  apart-check,
+  holds-check,
+  room-check,
+  pointer-check,
+  report-check,
+  place-check,
+  told-check,
+  free-check,
+}
+
+module _ (n : ℕ) (s : List ℕ) (formed : wellFormed n s ≡ true) where
+  abbrev m : M
+  m = model n s
+
+  -- none of the act's own checks applies
+  abbrev pub Silent : Name → ℕ → ℕ → ℕ → Type 0
+  Silent k A o B = NoneOf (rule n (act k A o B) s) (2 ∷ rowOf (act k A o B) .checks)
+
+  -- the oldest pointer of a lane that has one
+  module _ (A B : ℕ) (ha : A < n) (hb : B < n) (waits : ¬ (length (m .pointers A B) ≡ 0)) where
+    lane-seen : view n s (pointers A B) ≡ read n (pointers A B) s
+    lane-seen = view-in n (pointers A B) s (lane-inside n A B ha hb)
+
+    some : 0 < count (view n s (pointers A B))
+    some =
+        let q : length (m .pointers A B) ≡ count (view n s (pointers A B)) = list-length _ _ in
+        omega arith
+
+    pub oldest-is : (x : ℕ) (l : List ℕ) → m .pointers A B ≡ x ∷ l → oldestPointer n A B s ≡ x
+    oldest-is x l h =
+        let t = entries-taken pointerWidth (λ e. getD e 0 0) pointerPlaces (view n s (pointers A B)) (long-viewed n s (view n s) (seen n s formed) (pointers A B) (lane-inside n A B ha hb))
+            (pointers-lane n s formed A B ha hb .few) some in
+        ap (λ (l : List ℕ). getD (entry pointerWidth 0 l) 0 0) (sym lane-seen) ∙ ap (λ (k : List ℕ). getD k 0 0) (sym t ∙ h)
+
+    pub oldest-owned : ¬ (m .owner (oldestPointer n A B s) ≡ 0)
+    oldest-owned = subst (λ (l : List ℕ). ¬ (m .owner (getD (entry pointerWidth 0 l) 0 0) ≡ 0)) lane-seen (oldest-used n s formed A B ha hb some)
+
+  -- 13: no port stands against retiring
+  module _ (A o B : ℕ) (used : Used n o m) (silent : rule n (act RETIRE A o B) s 13 ≡ false) where
+    abbrev h : ℕ
+    h = home n o s
+
+    abbrev stands : ℕ → Bool
+    stands = against n h (λ q. heardOf n q o s) (λ q. transitOf n q o s) (heldOf n h o s)
+
+    beyond : n ≤ first n stands
+    unfolding rule standing lowestAgainst
+    beyond = ltb-false (standing n o s) n silent
+
+    none : (p : ℕ) → p < n → stands p ≡ false
+    none p l = first-before stands n p l (omega (arith, beyond))
+
+    abbrev heldTest : ℕ → Bool
+    heldTest p = cond (eqb p h) (ltb 0 (heldOf n h o s)) (ltb 0 (heardOf n p o s))
+
+    abbrev movedTest : ℕ → Bool
+    movedTest p = not (eqb (transitOf n p o s) (transitZero n))
+
+    both : (p : ℕ) → p < n → (heldTest p ≡ false) × (movedTest p ≡ false)
+    unfolding against
+    both p l = (left-false (heldTest p) (movedTest p) (none p l), right-false (heldTest p) (movedTest p) (none p l))
+
+    retirable : MayRetire n o m
+    retirable = record {
+      used = used;
+      home = λ g q. (let b = owner-is n s o in let z : h ≡ g = omega (arith, b, q) in let l : g < n = omega (arith, q, owner-low n s formed o) in
+          held-is n s g o l ∙ at-home g l z);
+      away = λ g p q l d. (let b = owner-is n s o in let z : h ≡ g = omega (arith, b, q) in heard-is n s p o l ∙ off-home p l (λ r. d (r ∙ z)));
+      moved = λ p l. transit-is n s p o l (used .numbered) ∙ eqb-true _ (transitZero n) (not-false _ (both p l .1));
+    }
+      where
+        at-home : (g : ℕ) → g < n → h ≡ g → heldOf n g o s ≡ 0
+        at-home g l z =
+            let l′ : h < n = omega (arith, l, z) in
+            let t : ltb 0 (heldOf n h o s) ≡ false = rw (eq-eqb h h refl) at (both h l′ .0) in
+            ap (λ (x : ℕ). heldOf n x o s) (sym z) ∙ omega (arith, ltb-false 0 (heldOf n h o s) t)
+
+        off-home : (p : ℕ) → p < n → ¬ (p ≡ h) → heardOf n p o s ≡ 0
+        off-home p l d =
+            let t : ltb 0 (heardOf n p o s) ≡ false = rw (ne-eqb p h d) at (both p l .0) in
+            omega (arith, ltb-false 0 (heardOf n p o s) t)
+
+  -- THE GUARD of an act whose own checks are silent
+  pub guard : (k : Name) (A o B : ℕ) → Silent k A o B → Guard n k A o B m
+  guard MAKE A o B f = record { port = port-check n s (act MAKE A o B) refl refl .0 (f .1 .0); free = free-check n s (act MAKE A o B) .0 (f .1 .1 .0) }
+  guard SEND A o B f =
+      let a = act SEND A o B in
+      let p = ports-check n s a refl refl .0 (f .1 .0) in
+      let u = used-check n s a .0 (f .1 .1 .1 .0) in
+      record {
+        sender = p .0;
+        receiver = p .1;
+        used = record { numbered = object-check n s a .0 (f .1 .1 .0); owned = u };
+        apart = apart-check n s a .0 (f .1 .1 .1 .1 .0);
+        holds = holds-check n s a (p .0) .0 (f .1 .1 .1 .1 .1 .0);
+        room = room-check n s a B (p .1) refl .0 (f .1 .1 .1 .1 .1 .1 .0);
+        place = place-check n s a (p .0) (p .1) .0 (f .1 .1 .1 .1 .1 .1 .1 .0);
+        told = told-check n s a formed (sending o A B) refl (p .0) u .0 (f .1 .1 .1 .1 .1 .1 .1 .1 .0);
+      }
+  guard COPY A o B f =
+      let a = act COPY A o B in
+      let p = port-check n s a refl refl .0 (f .1 .0) in
+      let u = used-check n s a .0 (f .1 .1 .1 .0) in
+      record {
+        port = p;
+        used = record { numbered = object-check n s a .0 (f .1 .1 .0); owned = u };
+        holds = holds-check n s a p .0 (f .1 .1 .1 .1 .0);
+        room = room-check n s a A p refl .0 (f .1 .1 .1 .1 .1 .0);
+        told = told-check n s a formed (event create o A) refl p u .0 (f .1 .1 .1 .1 .1 .1 .0);
+      }
+  guard DROP A o B f =
+      let a = act DROP A o B in
+      let p = port-check n s a refl refl .0 (f .1 .0) in
+      let u = used-check n s a .0 (f .1 .1 .1 .0) in
+      record {
+        port = p;
+        used = record { numbered = object-check n s a .0 (f .1 .1 .0); owned = u };
+        holds = holds-check n s a p .0 (f .1 .1 .1 .1 .0);
+        told = told-check n s a formed (event delete o A) refl p u .0 (f .1 .1 .1 .1 .1 .0);
+      }
+  guard DELIVER A o B f =
+      let a = act DELIVER A o B in
+      let p = ports-check n s a refl refl .0 (f .1 .0) in
+      let w = pointer-check n s a (p .0) (p .1) refl .0 (f .1 .1 .1 .0) in
+      record {
+        sender = p .0;
+        receiver = p .1;
+        apart = apart-check n s a .0 (f .1 .1 .0);
+        waits = w;
+        told = λ x l h. rw (oldest-is A B (p .0) (p .1) w x l h) at
+            (told-check n s a formed (event receive (oldestPointer n A B s) B) refl (p .1) (oldest-owned A B (p .0) (p .1) w) .0 (f .1 .1 .1 .1 .0));
+      }
+  guard HEAR A o B f =
+      let a = act HEAR A o B in
+      let p = ports-check n s a refl refl .0 (f .1 .0) in
+      record { sender = p .0; receiver = p .1; apart = apart-check n s a .0 (f .1 .1 .0); waits = report-check n s a (p .0) (p .1) refl .0 (f .1 .1 .1 .0) }
+  guard ASK A o B f = record { numbered = object-check n s (act ASK A o B) .0 (f .1 .0); owned = used-check n s (act ASK A o B) .0 (f .1 .1 .0) }
+  guard RETIRE A o B f =
+      retirable A o B (record { numbered = object-check n s (act RETIRE A o B) .0 (f .1 .0); owned = used-check n s (act RETIRE A o B) .0 (f .1 .1 .0) }) (f .1 .1 .1 .0)
+  guard SETTLE A o B f = tt
+  guard HOLD A o B f = (
+    port-check n s (act HOLD A o B) refl refl .0 (f .1 .0),
+    record { numbered = object-check n s (act HOLD A o B) .0 (f .1 .1 .0); owned = used-check n s (act HOLD A o B) .0 (f .1 .1 .1 .0) },
+  )
+
+  -- AND BACK: a delivery and a hearing that the model leaves
+  pub deliver-silent : (A o B : ℕ) → Guard n DELIVER A o B m → Silent DELIVER A o B
+  deliver-silent A o B g =
+      let a = act DELIVER A o B in
+      let x : ℕ = oldestPointer n A B s in
+      (unfold rule in refl, (ports-check n s a refl refl .1 (g .sender, g .receiver), (apart-check n s a .1 (g .apart),
+      (pointer-check n s a (g .sender) (g .receiver) refl .1 (g .waits),
+      (told-check n s a formed (event receive x B) refl (g .receiver) (oldest-owned A B (g .sender) (g .receiver) (g .waits)) .1 told, tt)))))
+    where
+      told : (h : ℕ) → m .owner (oldestPointer n A B s) ≡ h + 1 → ¬ (B ≡ h) → ¬ (length (m .reports B h) ≡ reportPlaces)
+      told h q d = go (m .pointers A B) refl
+        where
+          go : (l : List ℕ) → m .pointers A B ≡ l → ¬ (length (m .reports B h) ≡ reportPlaces)
+          go [] e = absurd (g .waits (ap length e))
+          go (x ∷ l) e = g .told x l e h (ap (m .owner) (sym (oldest-is A B (g .sender) (g .receiver) (g .waits) x l e)) ∙ q) d
+
+  pub hear-silent : (A o B : ℕ) → Guard n HEAR A o B m → Silent HEAR A o B
+  hear-silent A o B g =
+      let a = act HEAR A o B in
+      (unfold rule in refl, (ports-check n s a refl refl .1 (g .sender, g .receiver), (apart-check n s a .1 (g .apart),
+      (report-check n s a (g .sender) (g .receiver) refl .1 (g .waits), tt))))
