@@ -14,19 +14,19 @@ use Rattle.books.specs.Numbers.{first}
 use Rattle.books.specs.Books.{objectLimit, transitZero, against, lowestAgainst}
 use Rattle.books.proofs.Booleans.{left-false, right-false}
 use Rattle.books.proofs.Numbers.{first-before}
-use Rattle.lanes.specs.Lane.{pointerPlaces, reportPlaces, pointerWidth, count, entry}
+use Rattle.lanes.specs.Lane.{pointerPlaces, reportPlaces, pointerWidth, reportWidth, count, entry, taken}
 use Rattle.lanes.proofs.Entries.{entries-taken, list-length}
-use Rattle.store.specs.Layout.{pointers, read}
-use Rattle.store.specs.Store.{wellFormed, objectByte, home, heldOf, heardOf, transitOf}
+use Rattle.store.specs.Layout.{pointers, reports, read}
+use Rattle.store.specs.Store.{reported, wellFormed, objectByte, home, heldOf, heardOf, transitOf}
 use Rattle.store.proofs.Frame.{lane-inside, view, view-in}
 use Rattle.machine.specs.Acts.{Name, act, rowOf, event, sending, MAKE, SEND, COPY, DROP, DELIVER, HEAR, ASK, RETIRE, SETTLE, HOLD}
-use Rattle.machine.specs.Effects.{oldestPointer}
+use Rattle.machine.specs.Effects.{oldestPointer, oldestReport}
 use Rattle.machine.specs.Machine.{standing, rule}
 use Rattle.machine.proofs.Firsts.{NoneOf}
 use Rattle.demands.proofs.Model.{M}
 use Rattle.demands.proofs.Steps.{Used, MayRetire, Guard}
-use Rattle.demands.proofs.Bridge.{model, long-viewed, owner-is, held-is, heard-is, transit-is}
-use Rattle.demands.proofs.BridgeFormed.{seen, owner-low, pointers-lane, oldest-used}
+use Rattle.demands.proofs.Bridge.{model, pointersIn, reportsIn, long-viewed, owner-is, held-is, heard-is, transit-is}
+use Rattle.demands.proofs.BridgeFormed.{seen, owner-low, pointers-lane, reports-lane, oldest-used}
 use Rattle.demands.proofs.BridgeChecks.{
   port-check,
   ports-check,
@@ -50,24 +50,45 @@ module _ (n : ℕ) (s : List ℕ) (formed : wellFormed n s ≡ true) where
   abbrev pub Silent : Name → ℕ → ℕ → ℕ → Type 0
   Silent k A o B = NoneOf (rule n (act k A o B) s) (2 ∷ rowOf (act k A o B) .checks)
 
-  -- the oldest pointer of a lane that has one
-  module _ (A B : ℕ) (ha : A < n) (hb : B < n) (waits : ¬ (length (m .pointers A B) ≡ 0)) where
-    lane-seen : view n s (pointers A B) ≡ read n (pointers A B) s
-    lane-seen = view-in n (pointers A B) s (lane-inside n A B ha hb)
+  -- a lane that has an entry: its oldest, and the others
+  module _ (A B : ℕ) (ha : A < n) (hb : B < n) where
+    abbrev pointerLane : List ℕ
+    pointerLane = view n s (pointers A B)
 
-    some : 0 < count (view n s (pointers A B))
-    some =
-        let q : length (m .pointers A B) ≡ count (view n s (pointers A B)) = list-length _ _ in
-        omega arith
+    abbrev reportLane : List ℕ
+    reportLane = view n s (reports A B)
 
-    pub oldest-is : (x : ℕ) (l : List ℕ) → m .pointers A B ≡ x ∷ l → oldestPointer n A B s ≡ x
-    oldest-is x l h =
-        let t = entries-taken pointerWidth (λ e. getD e 0 0) pointerPlaces (view n s (pointers A B)) (long-viewed n s (view n s) (seen n s formed) (pointers A B) (lane-inside n A B ha hb))
-            (pointers-lane n s formed A B ha hb .few) some in
-        ap (λ (l : List ℕ). getD (entry pointerWidth 0 l) 0 0) (sym lane-seen) ∙ ap (λ (k : List ℕ). getD k 0 0) (sym t ∙ h)
+    pointer-lane : pointerLane ≡ read n (pointers A B) s
+    pointer-lane = view-in n (pointers A B) s (lane-inside n A B ha hb)
 
-    pub oldest-owned : ¬ (m .owner (oldestPointer n A B s) ≡ 0)
-    oldest-owned = subst (λ (l : List ℕ). ¬ (m .owner (getD (entry pointerWidth 0 l) 0 0) ≡ 0)) lane-seen (oldest-used n s formed A B ha hb some)
+    report-lane : reportLane ≡ read n (reports A B) s
+    report-lane = view-in n (reports A B) s (lane-inside n A B ha hb)
+
+    module _ (waits : ¬ (length (m .pointers A B) ≡ 0)) where
+      some-pointer : 0 < count pointerLane
+      some-pointer = let q : length (m .pointers A B) ≡ count pointerLane = list-length _ _ in omega arith
+
+      pub pointers-front : m .pointers A B ≡ oldestPointer n A B s ∷ pointersIn (taken pointerWidth pointerLane)
+      pointers-front =
+          entries-taken pointerWidth (λ e. getD e 0 0) pointerPlaces pointerLane (long-viewed n s (view n s) (seen n s formed) (pointers A B) (lane-inside n A B ha hb))
+          (pointers-lane n s formed A B ha hb .few) some-pointer
+          ∙ ap (λ (l : List ℕ). getD (entry pointerWidth 0 l) 0 0 ∷ pointersIn (taken pointerWidth pointerLane)) pointer-lane
+
+      pub oldest-is : (x : ℕ) (l : List ℕ) → m .pointers A B ≡ x ∷ l → oldestPointer n A B s ≡ x
+      oldest-is x l h = ap (λ (k : List ℕ). getD k 0 0) (sym pointers-front ∙ h)
+
+      pub oldest-owned : ¬ (m .owner (oldestPointer n A B s) ≡ 0)
+      oldest-owned = subst (λ (l : List ℕ). ¬ (m .owner (getD (entry pointerWidth 0 l) 0 0) ≡ 0)) pointer-lane (oldest-used n s formed A B ha hb some-pointer)
+
+    module _ (waits : ¬ (length (m .reports A B) ≡ 0)) where
+      some-report : 0 < count reportLane
+      some-report = let q : length (m .reports A B) ≡ count reportLane = list-length _ _ in omega arith
+
+      pub reports-front : m .reports A B ≡ oldestReport n A B s ∷ reportsIn A (taken reportWidth reportLane)
+      reports-front =
+          entries-taken reportWidth (reported A) reportPlaces reportLane (long-viewed n s (view n s) (seen n s formed) (reports A B) (lane-inside n A B ha hb))
+          (reports-lane n s formed A B ha hb .few) some-report
+          ∙ ap (λ (l : List ℕ). reported A (entry reportWidth 0 l) ∷ reportsIn A (taken reportWidth reportLane)) report-lane
 
   -- 13: no port stands against retiring
   module _ (A o B : ℕ) (used : Used n o m) (silent : rule n (act RETIRE A o B) s 13 ≡ false) where

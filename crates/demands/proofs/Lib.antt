@@ -33,3 +33,4 @@ pub mod BridgeChecks
 pub mod BridgeGuards
 pub mod BridgeFresh
 pub mod Run
+pub mod BridgeFits
