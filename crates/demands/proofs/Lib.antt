@@ -34,3 +34,5 @@ pub mod BridgeGuards
 pub mod BridgeFresh
 pub mod Run
 pub mod BridgeFits
+pub mod Never
+pub mod Exactly
