@@ -36,3 +36,5 @@ pub mod Run
 pub mod BridgeFits
 pub mod Never
 pub mod Exactly
+pub mod Asked
+pub mod Settled
