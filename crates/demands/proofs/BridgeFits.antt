@@ -13,7 +13,7 @@ use borrow.Author.Tests.{lt-ltb, eq-eqb, ne-eqb}
 use Rattle.paper.specs.Paper.{Event, receive}
 use Rattle.books.specs.Numbers.{every, listTo}
 use Rattle.books.specs.Books.{objectLimit, holdingLimit, transitTop}
-use Rattle.books.specs.Counters.{holdingFits, transitFits}
+use Rattle.books.specs.Fits.{holdingFits, transitFits}
 use Rattle.books.proofs.Booleans.{both-true}
 use Rattle.books.proofs.Numbers.{every-all}
 use Rattle.lanes.specs.Lane.{pointerWidth, reportWidth, count, entry}

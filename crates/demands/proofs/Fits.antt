@@ -13,7 +13,7 @@ use borrow.Author.Tests.{lt-ltb, eq-eqb, ne-eqb}
 use Rattle.paper.specs.Paper.{Kind, send, receive, create, delete, Event}
 use Rattle.books.specs.Numbers.{sumTo}
 use Rattle.books.specs.Books.{holdingLimit, transitTop}
-use Rattle.books.specs.Counters.{holdingFits, transitFits}
+use Rattle.books.specs.Fits.{holdingFits, transitFits}
 use Rattle.lanes.specs.Lane.{pointerPlaces}
 use Rattle.demands.specs.History.{those}
 use Rattle.demands.proofs.Lists.{length-those}
