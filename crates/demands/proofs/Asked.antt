@@ -1,25 +1,24 @@
 -- What ASK answers on the stores that acts make: the verdict is 004's absence of what the home has heard, the books are 004's counts of
 -- that, and absent means gone.
 -- Assumes nothing.
-use mathlib.Core.Path.{_≡_, refl, sym, subst, ap, _∙_}
-use mathlib.Core.Bool.{Bool, true, false, cond, not, true≢false}
-use mathlib.Core.Logic.{_⊎_, inl, inr, _↔_}
-use mathlib.Core.List.{List, [], _∷_}
-use Prim.Native.Nat.{ℕ, _+_, _-_, _<_}
+use mathlib.Core.Path.{_≡_, refl, sym, ap, _∙_}
+use mathlib.Core.Bool.{Bool, true, false, not}
+use mathlib.Core.Logic.{_⊎_, inl, inr}
+use mathlib.Core.List.{List, _∷_}
+use Prim.Native.Nat.{ℕ, _-_, _<_}
 use native.Mathlib.Omega.{arith}
 use lib.Dec.{leb, eqb}
-use lib.IntN.{pos, _+ℤ_}
+use lib.IntN.{pos}
 use borrow.Author.Tests.{lt-leb}
-use Rattle.paper.specs.Paper.{Event, inTransit, pointersTo}
-use Rattle.books.specs.Books.{objectLimit, transitTop, transitZero}
-use Rattle.store.specs.Store.{wellFormed, inUse, home}
+use Rattle.books.specs.Books.{objectLimit, transitTop}
+use Rattle.store.specs.Store.{inUse, home}
 use Rattle.machine.specs.Acts.{Act, act, rowOf, ASK}
-use Rattle.machine.specs.Effects.{after, valueOf, verdictOn}
+use Rattle.machine.specs.Effects.{valueOf}
 use Rattle.machine.specs.Machine.{firstIn, rule, refusal}
 use Rattle.machine.proofs.Firsts.{NoneOf}
 use Rattle.machine.proofs.Judged.{own, refusal-judged}
 use Rattle.machine.proofs.Refusals.{answers, refused-value}
-use Rattle.demands.specs.History.{run, accepted, those, heard}
+use Rattle.demands.specs.History.{run, accepted, those}
 use Rattle.demands.specs.Demands.{answer, SaysAbsent, VerdictIsAbsence, BooksAreCounts, AbsentMeansGone}
 use Rattle.demands.proofs.Model.{M}
 use Rattle.demands.proofs.Verdict.{verdictOf}
@@ -101,7 +100,10 @@ pub absent-means-gone : (n : ℕ) → transitTop n < 65535 → AbsentMeansGone n
 absent-means-gone n few acts o a =
     let s : List ℕ = run n acts in
     let used = said-used n few acts o a in
-    let w = absent-exactly-gone n (accepted n acts) (model n s) (run-reached n few acts) o (home n o s) (used-owner n o s used) (rw (asked n few acts o used) at a) in
-    (λ p l d. sym (held-is n s p o l) ∙ w .0 p l d,
-    λ A B la lb. (ap (those (λ x. eqb x o)) (sym (pointers-are n s A B la lb)) ∙ w .1 A B la lb .0,
-    ap (those (λ e. eqb (e .object) o)) (sym (reports-are n s A B la lb)) ∙ w .1 A B la lb .1))
+    let w = absent-exactly-gone n (accepted n acts) (model n s) (run-reached n few acts) o (home n o s) (used-owner n o s used) (rw (asked n few acts o used) at a) in (
+      λ p l d. sym (held-is n s p o l) ∙ w .0 p l d,
+      λ A B la lb. (
+        ap (those (λ x. eqb x o)) (sym (pointers-are n s A B la lb)) ∙ w .1 A B la lb .0,
+        ap (those (λ e. eqb (e .object) o)) (sym (reports-are n s A B la lb)) ∙ w .1 A B la lb .1,
+      ),
+    )

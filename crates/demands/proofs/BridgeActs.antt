@@ -2,33 +2,29 @@
 -- store after the act is well formed.
 -- Assumes nothing.
 use mathlib.Core.Path.{_≡_, refl, sym, subst, ap, _∙_}
-use mathlib.Core.Bool.{Bool, true, false, cond, _&&_}
-use mathlib.Core.List.{List, [], _∷_, _++_}
+use mathlib.Core.Bool.{true}
+use mathlib.Core.List.{List, [], _∷_}
 use Prim.Native.Nat.{ℕ, _+_, _-_, _*_, _≤_, _<_}
 use native.Mathlib.Omega.{arith}
 use native.Mathlib.Decide.{ℕ-discrete}
-use lib.Dec.{eqb}
-use lib.ListN.{length, getD, set, length-set}
-use lib.Seq.{getD-set-same, getD-set-other}
+use lib.ListN.{length, getD}
 use Rattle.paper.specs.Paper.{Event, receive, create, delete}
 use Rattle.books.specs.Books.{objectLimit, transitTop}
-use Rattle.lanes.specs.Lane.{pointerPlaces, reportPlaces, pointerWidth, reportWidth, count, entry, added, taken}
+use Rattle.lanes.specs.Lane.{pointerPlaces, reportPlaces, pointerWidth, count, entry, added, taken}
 use Rattle.lanes.proofs.Lane.{length-added, length-taken}
 use Rattle.lanes.proofs.Entries.{entries-added, entries-taken, list-length}
-use Rattle.store.specs.Layout.{Stretch, objects, pointers, reports, read, edit}
-use Rattle.store.specs.Store.{reported, wellFormed}
+use Rattle.store.specs.Layout.{Stretch, objects, pointers, reports, edit}
+use Rattle.store.specs.Store.{wellFormed}
 use Rattle.store.proofs.Frame.{lane-inside, view, upd, view-in, Viewed, edit-viewed}
-use Rattle.machine.specs.Acts.{Name, act, event, sending, MAKE, SEND, COPY, DROP, DELIVER, HEAR, ASK, RETIRE, SETTLE, HOLD}
-use Rattle.machine.specs.Effects.{happens, hears, owned, lowestFree, oldestPointer, oldestReport, after}
+use Rattle.machine.specs.Acts.{act, event, sending, SEND, COPY, DROP, DELIVER}
+use Rattle.machine.specs.Effects.{happens, owned, oldestPointer, after}
 use Rattle.demands.proofs.Events.{Proper}
-use Rattle.demands.proofs.Model.{M, SameLanes, Added, Taken, Happens, Owned, Same, Heard, Made, Effect, lowest}
-use Rattle.demands.proofs.Steps.{Tellable, MayDeliver, MayHear, Guard}
-use Rattle.demands.proofs.Acts.{lowest-free}
+use Rattle.demands.proofs.Model.{M, SameLanes, Added, Taken, Happens, Effect}
+use Rattle.demands.proofs.Steps.{Tellable, MayDeliver, Guard}
 use Rattle.demands.proofs.Bridge.{model, modelOf, model-viewed, long-viewed}
-use Rattle.demands.proofs.BridgeCounts.{lowest-is}
-use Rattle.demands.proofs.BridgeEvents.{lane-here, lane-other, Ranged, heardIn, hears-viewed}
-use Rattle.demands.proofs.BridgeHappens.{happensIn, happens-viewed, happens-pointers, happens-model, hears-model}
-use Rattle.demands.proofs.BridgeFormed.{seen, ranged, owned-low, owner-low, reports-short, pointers-lane, reports-lane, oldest-used, oldest-proper, oldest-low}
+use Rattle.demands.proofs.BridgeEvents.{lane-here, lane-other, Ranged}
+use Rattle.demands.proofs.BridgeHappens.{happensIn, happens-viewed, happens-pointers, happens-model}
+use Rattle.demands.proofs.BridgeFormed.{seen, ranged, owned-low, owner-low, reports-short, pointers-lane, oldest-used}
 
 module _ (n : ℕ) (few : transitTop n < 65535) where
   -- AN EVENT HAPPENS on a store whose stretches are v, and the store after it is well formed
@@ -57,9 +53,10 @@ module _ (n : ℕ) (few : transitTop n < 65535) where
         go d =
             let w : Stretch → List ℕ = happensIn n few s v is e proper low before h below homed room d in
             let i : Viewed n (happens n e s) w = happens-viewed n few s v is e proper low before h below homed room d in
-            subst (λ (m : M). Happens e (modelOf n v) m × SameLanes (modelOf n v .pointers) (m .pointers)) (sym (model-viewed n (happens n e s) w i))
-            (happens-model n few s v is e proper low before h below homed room d (ranged n (happens n e s) kept w i),
-            happens-pointers n few s v is e proper low before h below homed room d)
+            subst (λ (m : M). Happens e (modelOf n v) m × SameLanes (modelOf n v .pointers) (m .pointers)) (sym (model-viewed n (happens n e s) w i)) (
+              happens-model n few s v is e proper low before h below homed room d (ranged n (happens n e s) kept w i),
+              happens-pointers n few s v is e proper low before h below homed room d,
+            )
 
   -- an event happens alike where the pointers alone differ
   repointed : (e : Event) (v : Stretch → List ℕ) (A B : ℕ) (l : List ℕ) (m : M) → Happens e (modelOf n (upd n (pointers A B) l v)) m → Happens e (modelOf n v) m
@@ -95,8 +92,8 @@ module _ (n : ℕ) (few : transitTop n < 65535) where
           let i : Viewed n (edit n (pointers A B) f s) w = edit-viewed n (pointers A B) f s v (seen n s formed) (lane-inside n A B ha hb) keeps in
           let r = ranged n s formed v (seen n s formed) in
           let k = happened (edit n (pointers A B) f s) w i e proper (owned-low n s formed (e .object) used)
-              (record { held = λ p o. r .held p o; heard = λ p o. r .heard p o; transit = λ p o. r .transit p o })
-              used (owner-low n s formed (e .object)) (reports-short n s formed) told kept in
+          (record { held = λ p o. r .held p o; heard = λ p o. r .heard p o; transit = λ p o. r .transit p o })
+          used (owner-low n s formed (e .object)) (reports-short n s formed) told kept in
           (repointed e v A B (f (v (pointers A B))) _ (k .0), k .1)
 
     -- the same with no lane replaced
@@ -104,7 +101,7 @@ module _ (n : ℕ) (few : transitTop n < 65535) where
         → SameLanes (m .pointers) (model n (happens n e s) .pointers) × Happens e m (model n (happens n e s))
     still e proper used told kept =
         let k = happened s v (seen n s formed) e proper (owned-low n s formed (e .object) used) (ranged n s formed v (seen n s formed)) used
-            (owner-low n s formed (e .object)) (reports-short n s formed) told kept in
+        (owner-low n s formed (e .object)) (reports-short n s formed) told kept in
         (k .1, k .0)
 
     pub copy-effect : (A o B : ℕ) → Guard n COPY A o B m → wellFormed n (after n (act COPY A o B) s) ≡ true → Effect COPY A o B m (model n (after n (act COPY A o B) s))
@@ -148,8 +145,8 @@ module _ (n : ℕ) (few : transitTop n < 65535) where
     unfolding after
     send-effect A o B g kept =
         let k = moved A B (g .sender) (g .receiver) (added pointerWidth (o ∷ []))
-            (length-added pointerWidth pointerPlaces (o ∷ []) (v (pointers A B)) (lane-long A B (g .sender) (g .receiver)) refl)
-            (sending o A B) (record { port = g .sender; names = (g .receiver, λ q. g .apart (sym q)) }) (g .used .owned) (g .told) kept in
+        (length-added pointerWidth pointerPlaces (o ∷ []) (v (pointers A B)) (lane-long A B (g .sender) (g .receiver)) refl)
+        (sending o A B) (record { port = g .sender; names = (g .receiver, λ q. g .apart (sym q)) }) (g .used .owned) (g .told) kept in
         let t = added-lane A B (g .sender) (g .receiver) o (g .place) in
         (record { here = k .1 A B ∙ t .here; rest = λ X Y d. k .1 X Y ∙ t .rest X Y d }, k .0)
 
@@ -161,7 +158,7 @@ module _ (n : ℕ) (few : transitTop n < 65535) where
     delivered A B x g q kept =
         let t = rw q at (taken-lane A B (g .sender) (g .receiver) waits) in
         let k = moved A B (g .sender) (g .receiver) (taken pointerWidth) (taken-long A B (g .sender) (g .receiver) waits)
-            (event receive x B) (record { port = g .receiver; names = refl }) (rw q at (oldest-used n s formed A B (g .sender) (g .receiver) waits)) (g .told x _ (t .here)) kept in
+        (event receive x B) (record { port = g .receiver; names = refl }) (rw q at (oldest-used n s formed A B (g .sender) (g .receiver) waits)) (g .told x _ (t .here)) kept in
         (record { here = t .here ∙ ap (λ (l : List ℕ). x ∷ l) (sym (k .1 A B)); rest = λ X Y d. k .1 X Y ∙ t .rest X Y d }, k .0)
       where
         waits : 0 < count (v (pointers A B))

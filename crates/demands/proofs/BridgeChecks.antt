@@ -1,30 +1,29 @@
 -- The checks in the model's words: when each rule of the refusal table does not apply to an act on a well formed store.
 -- Assumes nothing.
 use mathlib.Core.Path.{_≡_, refl, sym, ap, _∙_}
-use mathlib.Core.Bool.{Bool, true, false, cond, not, _&&_, _||_, true≢false}
+use mathlib.Core.Bool.{Bool, true, false, not, _&&_, _||_, true≢false}
 use mathlib.Core.Logic.{_↔_}
 use mathlib.Core.List.{List}
-use Prim.Native.Nat.{ℕ, zero, suc, _+_, _-_, _≤_, _<_}
+use Prim.Native.Nat.{ℕ, _+_, _-_, _<_}
 use native.Mathlib.Omega.{arith}
 use native.Mathlib.Decide.{ℕ-discrete}
-use lib.Dec.{leb, ltb, eqb}
+use lib.Dec.{leb, eqb}
 use lib.ListN.{length}
-use borrow.Author.Tests.{leb-false, lt-leb, ltb-true, ltb-false, lt-ltb, eqb-true, eqb-false, eq-eqb, ne-eqb}
+use borrow.Author.Tests.{leb-false, lt-leb, eqb-false, eq-eqb, ne-eqb}
 use Rattle.paper.specs.Paper.{Event}
-use Rattle.books.specs.Numbers.{first}
-use Rattle.books.specs.Books.{objectLimit, holdingLimit, transitZero, against, lowestAgainst}
+use Rattle.books.specs.Books.{objectLimit, holdingLimit}
 use Rattle.lanes.specs.Lane.{pointerPlaces, reportPlaces, count}
 use Rattle.lanes.proofs.Entries.{list-length}
 use Rattle.store.specs.Layout.{pointers, reports, read}
-use Rattle.store.specs.Store.{wellFormed, objectByte, home, heldOf, heardOf, transitOf}
+use Rattle.store.specs.Store.{wellFormed, objectByte, heldOf}
 use Rattle.store.specs.Store as Store
 use Rattle.store.proofs.Frame.{lane-inside, view-in}
 use Rattle.machine.specs.Acts.{Act, rowOf, is, HEAR}
 use Rattle.machine.specs.Effects.{lowestFree, eventIn}
-use Rattle.machine.specs.Machine.{standing, rule}
+use Rattle.machine.specs.Machine.{rule}
 use Rattle.demands.proofs.Model.{M, onWay, lowest}
-use Rattle.demands.proofs.Steps.{Tellable, Used}
-use Rattle.demands.proofs.Bridge.{model, owner-is, held-is, heard-is, transit-is}
+use Rattle.demands.proofs.Steps.{Tellable}
+use Rattle.demands.proofs.Bridge.{model, owner-is, held-is}
 use Rattle.demands.proofs.BridgeCounts.{way-is, lowest-is}
 use Rattle.demands.proofs.BridgeFormed.{owner-low}
 

@@ -1,9 +1,9 @@
 -- The numbers that acts work out of a whole store, in the model's words: the pointers on the way, the lowest free object, the verdict,
 -- the settling number.
 -- Assumes nothing.
-use mathlib.Core.Path.{_≡_, refl, sym, ap, _∙_}
-use mathlib.Core.Bool.{Bool, true, false, cond, not, _&&_, _||_}
-use mathlib.Core.List.{List, [], _∷_, _++_}
+use mathlib.Core.Path.{_≡_, refl, sym, ap}
+use mathlib.Core.Bool.{Bool, true, false, cond, not, _&&_}
+use mathlib.Core.List.{List, [], _∷_}
 use Prim.Native.Nat.{ℕ, zero, suc, _+_, _-_, _*_, _<_}
 use native.Mathlib.Omega.{arith}
 use lib.Dec.{ltb, eqb}
@@ -11,7 +11,7 @@ use lib.ListN.{length, getD, length-append}
 use Rattle.books.specs.Numbers.{some, first, sumTo, listTo}
 use Rattle.books.specs.Books.{objectLimit, transitZero, verdict}
 use Rattle.books.proofs.Numbers.{sum-ext}
-use Rattle.lanes.specs.Lane.{pointerWidth, reportWidth, count, entry}
+use Rattle.lanes.specs.Lane.{pointerWidth, count, entry}
 use Rattle.lanes.specs.Lane as Lane
 use Rattle.lanes.proofs.Entries.{list-length}
 use Rattle.store.specs.Layout.{objects, pointers, reports, read}
@@ -20,8 +20,8 @@ use Rattle.store.proofs.Frame.{lane-inside, view-in}
 use Rattle.machine.specs.Effects.{lowestFree, verdictOn, settling}
 use Rattle.demands.specs.History.{those}
 use Rattle.demands.proofs.Lists.{those-append}
-use Rattle.demands.proofs.Model.{M, onWay, lowest}
-use Rattle.demands.proofs.Bridge.{model, pointersIn, reportsIn, owner-is, heard-is, transit-is}
+use Rattle.demands.proofs.Model.{onWay, lowest}
+use Rattle.demands.proofs.Bridge.{model, owner-is, heard-is, transit-is}
 
 -- of the first k members, as many pass a test as the list of them has
 counted : (p : ℕ → Bool) (f : ℕ → ℕ) (k : ℕ) → length (those p (listTo k f)) ≡ sumTo k (λ i. cond (p (f i)) 1 0)

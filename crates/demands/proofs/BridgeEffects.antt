@@ -2,10 +2,9 @@
 -- Assumes nothing.
 use mathlib.Core.Path.{_≡_, refl, sym, subst, ap, _∙_}
 use mathlib.Core.Bool.{true}
-use mathlib.Core.List.{List, [], _∷_}
+use mathlib.Core.List.{List, _∷_}
 use Prim.Native.Nat.{ℕ, _+_, _*_, _≤_, _<_}
 use native.Mathlib.Omega.{arith}
-use lib.Dec.{eqb}
 use lib.ListN.{length, getD, set, length-set}
 use lib.Seq.{getD-set-same, getD-set-other}
 use Rattle.paper.specs.Paper.{Event, create}
@@ -13,13 +12,13 @@ use Rattle.books.specs.Books.{objectLimit, transitTop}
 use Rattle.lanes.specs.Lane.{reportPlaces, reportWidth, count, entry, taken}
 use Rattle.lanes.proofs.Lane.{length-taken}
 use Rattle.lanes.proofs.Entries.{entries-taken, list-length}
-use Rattle.store.specs.Layout.{Stretch, objects, reports, read, edit}
+use Rattle.store.specs.Layout.{Stretch, objects, reports, edit}
 use Rattle.store.specs.Store.{reported, wellFormed}
 use Rattle.store.proofs.Frame.{lane-inside, view, upd, view-in, Viewed, edit-viewed}
 use Rattle.machine.specs.Acts.{Name, act, event, MAKE, SEND, COPY, DROP, DELIVER, HEAR, ASK, RETIRE, SETTLE, HOLD}
 use Rattle.machine.specs.Effects.{happens, hears, owned, lowestFree, oldestReport, after}
 use Rattle.demands.proofs.Events.{Proper}
-use Rattle.demands.proofs.Model.{M, SameLanes, Taken, Owned, Same, Heard, Made, Effect, lowest}
+use Rattle.demands.proofs.Model.{M, Owned, Same, Heard, Made, Effect}
 use Rattle.demands.proofs.Steps.{MayHear, Guard}
 use Rattle.demands.proofs.Acts.{lowest-free}
 use Rattle.demands.proofs.Bridge.{model, modelOf, model-viewed, long-viewed, reportsIn}
@@ -76,7 +75,7 @@ module _ (n : ℕ) (few : transitTop n < 65535) (s : List ℕ) (formed : wellFor
       let t = owned-model x (A + 1) low in
       let q : getD (ownedIn x (A + 1) low objects) x 0 ≡ A + 1 = t .here in
       let k = happened n few (owned n x (A + 1) s) (ownedIn x (A + 1) low) (owned-viewed x (A + 1) low) (event create x A) (record { port = port; names = refl }) low
-          (owned-ranged x (A + 1) low) (λ z. omega arith) (omega arith) (owned-short x (A + 1) low) (λ h w d. absurd (d (omega (arith, w)))) kept in
+      (owned-ranged x (A + 1) low) (λ z. omega arith) (omega arith) (owned-short x (A + 1) low) (λ h w d. absurd (d (omega (arith, w)))) kept in
       record { between = modelOf n (ownedIn x (A + 1) low); owned = t; happens = k .0; pointers = k .1 }
 
   -- the oldest report e from A is heard at B

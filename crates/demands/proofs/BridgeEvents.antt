@@ -1,29 +1,25 @@
 -- An event that happens in the bytes, or is heard, is the model's: stretch by stretch, over the frame.
 -- Assumes nothing.
-use mathlib.Core.Path.{_≡_, refl, sym, ap, _∙_}
-use mathlib.Core.Bool.{Bool, true, false, cond, _&&_, and-false}
-use mathlib.Core.List.{List, [], _∷_, _++_}
-use Prim.Native.Nat.{ℕ, _+_, _-_, _*_, _≤_, _<_}
+use mathlib.Core.Path.{_≡_, refl, sym, _∙_}
+use mathlib.Core.Bool.{true, false, _&&_, and-false}
+use mathlib.Core.List.{List}
+use Prim.Native.Nat.{ℕ, _+_, _-_, _≤_, _<_}
 use native.Mathlib.Omega.{arith}
-use native.Mathlib.Decide.{ℕ-discrete, decLt}
-use lib.Dec.{ltb, eqb}
-use lib.ListN.{length, getD}
-use borrow.Author.Tests.{eq-eqb, ne-eqb, lt-ltb, le-ltb}
-use Rattle.paper.specs.Paper.{Kind, send, receive, create, delete, Event}
-use Rattle.books.specs.Books.{objectLimit, holdingLimit, transitZero, transitTop, transitAt, holdingEffect, transitEffect}
+use native.Mathlib.Decide.{ℕ-discrete}
+use lib.Dec.{eqb}
+use lib.ListN.{getD}
+use borrow.Author.Tests.{eq-eqb, ne-eqb}
+use Rattle.paper.specs.Paper.{Event}
+use Rattle.books.specs.Books.{objectLimit, holdingLimit, transitTop, transitAt, holdingEffect, transitEffect}
 use Rattle.books.proofs.Effects.{length-holding, length-transit}
-use Rattle.lanes.specs.Lane.{reportPlaces, reportWidth, count, added}
+use Rattle.lanes.specs.Lane.{reportPlaces, reportWidth, added}
 use Rattle.lanes.proofs.Lane.{length-added}
-use Rattle.lanes.proofs.Entries.{entries-added}
-use Rattle.store.specs.Layout.{Stretch, objects, held, heard, transit, pointers, reports, read, edit}
-use Rattle.store.specs.Store.{report, reported, objectByte, home}
-use Rattle.store.proofs.Frame.{inside, port-inside, lane-inside, upd, Viewed, read-viewed, edit-viewed}
+use Rattle.store.specs.Layout.{Stretch, objects, held, heard, transit, reports, edit}
+use Rattle.store.specs.Store.{report}
+use Rattle.store.proofs.Frame.{port-inside, lane-inside, upd, Viewed, read-viewed, edit-viewed}
 use Rattle.machine.specs.Effects.{hears, tells, happens}
-use Rattle.demands.proofs.Events.{one, gain, loss, Proper, at-other, names-port, one-object, one-names}
-use Rattle.demands.proofs.Model.{M, SameLanes, Hears, Deaf, Happens}
+use Rattle.demands.proofs.Events.{Proper, names-port}
 use Rattle.demands.proofs.Bridge.{long-viewed, row-long}
-use Rattle.demands.proofs.BridgeReports.{reported-report}
-use Rattle.demands.proofs.BridgeRows.{holding-moves, held-moves, transit-moves}
 
 -- one lane among all: it, and every other
 pub lane-here : (a b : ℕ) → (eqb b b && eqb a a) ≡ true

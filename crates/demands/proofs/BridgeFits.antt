@@ -2,37 +2,35 @@
 -- Assumes nothing.
 use mathlib.Core.Path.{_≡_, refl, sym, subst, ap, _∙_}
 use mathlib.Core.Bool.{Bool, true, false, cond, not, _&&_}
-use mathlib.Core.Logic.{_↔_}
 use mathlib.Core.List.{List, [], _∷_, _++_}
 use Prim.Native.Nat.{ℕ, zero, suc, _+_, _-_, _%_, _<_}
 use native.Mathlib.Omega.{arith}
 use native.Mathlib.Decide.{ℕ-discrete}
 use lib.Dec.{ltb, eqb}
-use lib.ListN.{length, getD}
+use lib.ListN.{getD}
 use borrow.Author.Tests.{lt-ltb, eq-eqb, ne-eqb}
 use Rattle.paper.specs.Paper.{Event, receive}
-use Rattle.books.specs.Numbers.{every, listTo}
+use Rattle.books.specs.Numbers.{listTo}
 use Rattle.books.specs.Books.{objectLimit, holdingLimit, transitTop}
 use Rattle.books.specs.Fits.{holdingFits, transitFits}
 use Rattle.books.proofs.Booleans.{both-true}
 use Rattle.books.proofs.Numbers.{every-all}
 use Rattle.lanes.specs.Lane.{pointerWidth, reportWidth, count, entry}
 use Rattle.store.specs.Layout.{pointers, reports, read}
-use Rattle.store.specs.Store.{wellFormed, objectByte, home, heldOf, heardOf, transitOf}
-use Rattle.store.proofs.Frame.{lane-inside, view, view-in}
+use Rattle.store.specs.Store.{wellFormed, objectByte, home}
 use Rattle.machine.specs.Acts.{Act, Name, act, rowOf, event, sending, MAKE, SEND, COPY, DROP, DELIVER, HEAR, ASK, RETIRE, SETTLE, HOLD}
 use Rattle.machine.specs.Effects.{oldestPointer, oldestReport, after}
 use Rattle.machine.specs.Fits.{hearsFits, happensFits, noneHolds, noPointer, noReport, retireFits, fits}
 use Rattle.machine.specs.Machine.{rule, refusal}
 use Rattle.machine.proofs.Firsts.{NoneOf, none-first}
-use Rattle.machine.proofs.Judged.{own, refusal-judged}
+use Rattle.machine.proofs.Judged.{refusal-judged}
 use Rattle.machine.proofs.Decided.{kept}
 use Rattle.demands.specs.History.{those}
 use Rattle.demands.proofs.Lists.{All, none-those}
 use Rattle.demands.proofs.Events.{names-port}
 use Rattle.demands.proofs.Model.{M}
 use Rattle.demands.proofs.Hearing.{oldest-proper, oldest-named}
-use Rattle.demands.proofs.Steps.{Guard, MayRetire}
+use Rattle.demands.proofs.Steps.{Guard}
 use Rattle.demands.proofs.Kept.{Kept}
 use Rattle.demands.proofs.Fits.{send-fits, deliver-room, deliver-transit, hear-holding-fits, hear-transit-fits, retire-holds, retire-pointers, retire-reports}
 use Rattle.demands.proofs.Bridge.{model, owner-is, held-is, heard-is, transit-is, pointers-are, reports-are}

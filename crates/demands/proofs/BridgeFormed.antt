@@ -1,8 +1,8 @@
 -- What a well formed store says of its model: counts in range, owners, and what stands on the lanes.
 -- Assumes nothing.
-use mathlib.Core.Path.{_≡_, refl, sym, ap, _∙_}
+use mathlib.Core.Path.{_≡_, refl, sym, _∙_}
 use mathlib.Core.Bool.{true, false, _&&_, and-false}
-use mathlib.Core.List.{List, [], _∷_}
+use mathlib.Core.List.{List, []}
 use Prim.Native.Nat.{ℕ, _+_, _≤_, _<_}
 use native.Mathlib.Omega.{arith}
 use native.Mathlib.Decide.{decLt}
@@ -13,12 +13,12 @@ use Rattle.paper.specs.Paper.{Event}
 use Rattle.books.specs.Books.{objectLimit, transitZero}
 use Rattle.lanes.specs.Lane.{pointerPlaces, reportPlaces, pointerWidth, reportWidth, count, entry}
 use Rattle.lanes.proofs.Lane.{LaneForm}
-use Rattle.store.specs.Layout.{Stretch, objects, held, heard, transit, pointers, reports, read}
+use Rattle.store.specs.Layout.{Stretch, objects, held, heard, transit, pointers, reports}
 use Rattle.store.specs.Store.{reported, objectByte, wellFormed, pointerRight, reportRight}
 use Rattle.store.proofs.Frame.{port-inside, lane-inside, view, view-in, Viewed, viewed, read-viewed}
 use Rattle.store.proofs.Formed.{Formed, formed-means}
 use Rattle.demands.proofs.Events.{Proper}
-use Rattle.demands.proofs.Bridge.{model, modelOf, long-viewed, row-long, view-out, owner-is, held-is, heard-is, transit-is}
+use Rattle.demands.proofs.Bridge.{model, long-viewed, row-long, view-out, owner-is, held-is, heard-is, transit-is}
 use Rattle.demands.proofs.BridgeReports.{reported-home, reported-low, reported-proper}
 use Rattle.demands.proofs.BridgeEvents.{Ranged}
 

@@ -1,17 +1,16 @@
 -- The fresh store is the model with no objects, no entries and all counts 0.
 -- Assumes nothing.
-use mathlib.Core.Path.{_≡_, refl, sym, ap, _∙_}
-use mathlib.Core.Bool.{true}
-use mathlib.Core.List.{List, []}
+use mathlib.Core.Path.{_≡_, refl, ap, _∙_}
+use mathlib.Core.List.{[]}
 use Prim.Native.Nat.{ℕ, zero, suc, _<_}
 use native.Mathlib.Omega.{arith}
 use native.Mathlib.Decide.{decLt}
-use lib.ListN.{length, getD, replicate, getD-replicate, length-replicate, List·getD-eq-default}
+use lib.ListN.{getD, replicate, getD-replicate, length-replicate, List·getD-eq-default}
 use Rattle.books.specs.Numbers.{listTo}
 use Rattle.books.specs.Books.{objectLimit}
-use Rattle.lanes.specs.Lane.{pointerWidth, reportWidth, count, entry}
+use Rattle.lanes.specs.Lane.{reportWidth, count, entry}
 use Rattle.store.specs.Layout.{objects, pointers, reports, read}
-use Rattle.store.specs.Store.{fresh, reported, wellFormed}
+use Rattle.store.specs.Store.{fresh, reported}
 use Rattle.store.proofs.Frame.{view}
 use Rattle.store.proofs.Fresh.{fresh-formed}
 use Rattle.demands.proofs.Steps.{Fresh}

@@ -1,23 +1,22 @@
 -- What an act's silent checks leave of it is the model's guard; of a delivery and of a hearing the guard is also enough.
 -- Assumes nothing.
 use mathlib.Core.Path.{_≡_, refl, sym, subst, ap, _∙_}
-use mathlib.Core.Bool.{Bool, true, false, cond, not, _||_, true≢false}
+use mathlib.Core.Bool.{Bool, true, false, cond, not}
 use mathlib.Core.List.{List, [], _∷_}
-use Prim.Native.Nat.{ℕ, _+_, _-_, _*_, _≤_, _<_}
+use Prim.Native.Nat.{ℕ, _+_, _-_, _≤_, _<_}
 use native.Mathlib.Omega.{arith}
-use native.Mathlib.Decide.{ℕ-discrete}
 use lib.Dec.{ltb, eqb}
 use lib.ListN.{length, getD}
 use borrow.Author.Tests.{ltb-false, eqb-true, eq-eqb, ne-eqb, not-false}
-use Rattle.paper.specs.Paper.{Event, receive, create, delete}
+use Rattle.paper.specs.Paper.{receive, create, delete}
 use Rattle.books.specs.Numbers.{first}
-use Rattle.books.specs.Books.{objectLimit, transitZero, against, lowestAgainst}
+use Rattle.books.specs.Books.{transitZero, against, lowestAgainst}
 use Rattle.books.proofs.Booleans.{left-false, right-false}
 use Rattle.books.proofs.Numbers.{first-before}
 use Rattle.lanes.specs.Lane.{pointerPlaces, reportPlaces, pointerWidth, reportWidth, count, entry, taken}
 use Rattle.lanes.proofs.Entries.{entries-taken, list-length}
 use Rattle.store.specs.Layout.{pointers, reports, read}
-use Rattle.store.specs.Store.{reported, wellFormed, objectByte, home, heldOf, heardOf, transitOf}
+use Rattle.store.specs.Store.{reported, wellFormed, home, heldOf, heardOf, transitOf}
 use Rattle.store.proofs.Frame.{lane-inside, view, view-in}
 use Rattle.machine.specs.Acts.{Name, act, rowOf, event, sending, MAKE, SEND, COPY, DROP, DELIVER, HEAR, ASK, RETIRE, SETTLE, HOLD}
 use Rattle.machine.specs.Effects.{oldestPointer, oldestReport}
@@ -27,20 +26,7 @@ use Rattle.demands.proofs.Model.{M}
 use Rattle.demands.proofs.Steps.{Used, MayRetire, Guard}
 use Rattle.demands.proofs.Bridge.{model, pointersIn, reportsIn, long-viewed, owner-is, held-is, heard-is, transit-is}
 use Rattle.demands.proofs.BridgeFormed.{seen, owner-low, pointers-lane, reports-lane, oldest-used}
-use Rattle.demands.proofs.BridgeChecks.{
-  port-check,
-  ports-check,
-  object-check,
-  used-check,
-  apart-check,
-  holds-check,
-  room-check,
-  pointer-check,
-  report-check,
-  place-check,
-  told-check,
-  free-check,
-}
+use Rattle.demands.proofs.BridgeChecks.{port-check, ports-check, object-check, used-check, apart-check, holds-check, room-check, pointer-check, report-check, place-check, told-check, free-check}
 
 module _ (n : ℕ) (s : List ℕ) (formed : wellFormed n s ≡ true) where
   abbrev m : M
@@ -202,10 +188,19 @@ module _ (n : ℕ) (s : List ℕ) (formed : wellFormed n s ≡ true) where
   pub deliver-silent : (A o B : ℕ) → Guard n DELIVER A o B m → Silent DELIVER A o B
   deliver-silent A o B g =
       let a = act DELIVER A o B in
-      let x : ℕ = oldestPointer n A B s in
-      (unfold rule in refl, (ports-check n s a refl refl .1 (g .sender, g .receiver), (apart-check n s a .1 (g .apart),
-      (pointer-check n s a (g .sender) (g .receiver) refl .1 (g .waits),
-      (told-check n s a formed (event receive x B) refl (g .receiver) (oldest-owned A B (g .sender) (g .receiver) (g .waits)) .1 told, tt)))))
+      let x : ℕ = oldestPointer n A B s in (
+        unfold rule in refl,
+        (
+          ports-check n s a refl refl .1 (g .sender, g .receiver),
+          (
+            apart-check n s a .1 (g .apart),
+            (
+              pointer-check n s a (g .sender) (g .receiver) refl .1 (g .waits),
+              (told-check n s a formed (event receive x B) refl (g .receiver) (oldest-owned A B (g .sender) (g .receiver) (g .waits)) .1 told, tt),
+            ),
+          ),
+        ),
+      )
     where
       told : (h : ℕ) → m .owner (oldestPointer n A B s) ≡ h + 1 → ¬ (B ≡ h) → ¬ (length (m .reports B h) ≡ reportPlaces)
       told h q d = go (m .pointers A B) refl
@@ -216,6 +211,13 @@ module _ (n : ℕ) (s : List ℕ) (formed : wellFormed n s ≡ true) where
 
   pub hear-silent : (A o B : ℕ) → Guard n HEAR A o B m → Silent HEAR A o B
   hear-silent A o B g =
-      let a = act HEAR A o B in
-      (unfold rule in refl, (ports-check n s a refl refl .1 (g .sender, g .receiver), (apart-check n s a .1 (g .apart),
-      (report-check n s a (g .sender) (g .receiver) refl .1 (g .waits), tt))))
+      let a = act HEAR A o B in (
+        unfold rule in refl,
+        (
+          ports-check n s a refl refl .1 (g .sender, g .receiver),
+          (
+            apart-check n s a .1 (g .apart),
+            (report-check n s a (g .sender) (g .receiver) refl .1 (g .waits), tt),
+          ),
+        ),
+      )

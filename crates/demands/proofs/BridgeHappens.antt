@@ -1,7 +1,7 @@
 -- What an event that is heard, or that happens, makes of the stretches is what it makes of the model.
 -- Assumes nothing.
 use mathlib.Core.Path.{_≡_, refl, sym, ap, _∙_}
-use mathlib.Core.Bool.{Bool, true, false, cond, _&&_, and-false}
+use mathlib.Core.Bool.{cond, _&&_}
 use mathlib.Core.List.{List, [], _∷_, _++_}
 use Prim.Native.Nat.{ℕ, _+_, _-_, _*_, _≤_, _<_}
 use native.Mathlib.Omega.{arith}
@@ -11,15 +11,15 @@ use lib.ListN.{length, getD}
 use borrow.Author.Tests.{eq-eqb, ne-eqb, lt-ltb, le-ltb}
 use Rattle.paper.specs.Paper.{send, receive, create, delete, Event}
 use Rattle.books.specs.Books.{objectLimit, holdingLimit, transitZero, transitTop, transitAt, holdingEffect, transitEffect}
-use Rattle.lanes.specs.Lane.{reportPlaces, reportWidth, count, added}
+use Rattle.lanes.specs.Lane.{reportPlaces, reportWidth, count}
 use Rattle.lanes.proofs.Entries.{entries-added}
 use Rattle.store.specs.Layout.{Stretch, objects, held, heard, transit, pointers, reports}
 use Rattle.store.specs.Store.{report, reported}
-use Rattle.store.proofs.Frame.{port-inside, lane-inside, upd, Viewed}
+use Rattle.store.proofs.Frame.{lane-inside, upd, Viewed}
 use Rattle.machine.specs.Effects.{happens}
 use Rattle.demands.proofs.Events.{one, gain, loss, Proper, at-other, names-port, one-object, one-names}
-use Rattle.demands.proofs.Model.{M, SameLanes, Hears, Deaf, Happens}
-use Rattle.demands.proofs.Bridge.{model, modelOf, model-viewed, long-viewed, row-long, reportsIn}
+use Rattle.demands.proofs.Model.{SameLanes, Hears, Happens}
+use Rattle.demands.proofs.Bridge.{modelOf, long-viewed, row-long, reportsIn}
 use Rattle.demands.proofs.BridgeReports.{reported-report}
 use Rattle.demands.proofs.BridgeRows.{holding-moves, held-moves, transit-moves}
 use Rattle.demands.proofs.BridgeEvents.{lane-here, lane-other, Ranged, heardIn, heldIn, toldIn, held-viewed, happens-home, happens-away}

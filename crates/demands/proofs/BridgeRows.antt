@@ -12,7 +12,7 @@ use lib.ListN.{length, getD}
 use borrow.Author.Tests.{eq-eqb, le-leb, ltb-true}
 use Rattle.paper.specs.Paper.{Kind, send, receive, create, delete, number, Event}
 use Rattle.books.specs.Books.{holdingLimit, transitTop, transitAt, holdingEffect, transitEffect}
-use Rattle.books.proofs.Effects.{holding-up, holding-down, holding-other, holding-fits, transit-up, transit-down, transit-other, transit-fits}
+use Rattle.books.proofs.Effects.{holding-up, holding-down, holding-other, transit-up, transit-down, transit-other, transit-fits}
 use Rattle.demands.proofs.Events.{one, gain, loss, Names, Proper, one-object}
 
 -- what an event counts of its own object at the port that it names

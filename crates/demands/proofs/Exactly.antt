@@ -10,11 +10,11 @@ use native.Mathlib.Omega.{arith}
 use lib.Dec.{eqb}
 use lib.ListN.{length}
 use borrow.Author.Tests.{eqb-false, not-true}
-use Rattle.paper.specs.Paper.{Event, receive, create, delete, Any, May}
+use Rattle.paper.specs.Paper.{receive, Any, May}
 use Rattle.books.specs.Books.{transitTop}
 use Rattle.store.specs.Store.{objectByte, inUse, home}
-use Rattle.machine.specs.Acts.{Act, act, rowOf, event, sending, SEND, COPY, DROP, DELIVER}
-use Rattle.machine.specs.Machine.{firstIn, rule}
+use Rattle.machine.specs.Acts.{Act, act, rowOf, event, SEND, COPY, DROP, DELIVER}
+use Rattle.machine.specs.Machine.{rule}
 use Rattle.machine.proofs.Firsts.{NoneOf, positive, none-first, first-none, none-but, but-none}
 use Rattle.demands.specs.History.{run, accepted, undelivered, happened}
 use Rattle.demands.specs.Demands.{Taken, Within, ExactlyLegal, ReceiptExactlyLegal, AlwaysLegal, LanesAreLeft}
@@ -24,7 +24,7 @@ use Rattle.demands.proofs.Legal.{reached-legal}
 use Rattle.demands.proofs.Reached.{holds-exactly, receipt-may}
 use Rattle.demands.proofs.Bridge.{model, owner-is, pointers-are, reports-are}
 use Rattle.demands.proofs.BridgeChecks.{port-check, ports-check, holds-check, pointer-check}
-use Rattle.demands.proofs.BridgeGuards.{guard, pointers-front}
+use Rattle.demands.proofs.BridgeGuards.{pointers-front}
 use Rattle.demands.proofs.Run.{run-formed, run-reached}
 use Rattle.demands.proofs.Never.{taken-silent}
 
@@ -84,10 +84,11 @@ module _ (n : ℕ) (few : transitTop n < 65535) (acts : List Act) (A o B : ℕ) 
   receipt-check ha hb =
       let c = pointer-check n (run n acts) a ha hb refl in
       let r = run-reached n few acts in
-      let left = pointers-left n (accepted n acts) (model n (run n acts)) r A B in
-      (λ e. (let q = sym left ∙ pointers-front n (run n acts) (run-formed n few acts) A B ha hb (c .0 e) in
-          (_, _, q, receipt-may n (accepted n acts) (model n (run n acts)) r A B _ _ ha q)),
-      λ w. c .1 (λ z. omega (arith, z, ap length (left ∙ w .2))))
+      let left = pointers-left n (accepted n acts) (model n (run n acts)) r A B in (
+        λ e. (let q = sym left ∙ pointers-front n (run n acts) (run-formed n few acts) A B ha hb (c .0 e) in
+            (_, _, q, receipt-may n (accepted n acts) (model n (run n acts)) r A B _ _ ha q)),
+        λ w. c .1 (λ z. omega (arith, z, ap length (left ∙ w .2))),
+      )
 
   receipt : Taken n a (run n acts) ↔ (Undelivered × Within n (3 ∷ 6 ∷ 11 ∷ []) a (run n acts))
   unfolding positive
@@ -106,6 +107,7 @@ always-legal n few acts o u =
 -- THE LANES ARE WHAT IS LEFT
 pub lanes-are-left : (n : ℕ) → transitTop n < 65535 → LanesAreLeft n
 lanes-are-left n few acts A B ha hb =
-    let r = run-reached n few acts in
-    (sym (pointers-are n (run n acts) A B ha hb) ∙ pointers-left n (accepted n acts) (model n (run n acts)) r A B,
-    sym (reports-are n (run n acts) A B ha hb) ∙ reports-left n (accepted n acts) (model n (run n acts)) r A B)
+    let r = run-reached n few acts in (
+      sym (pointers-are n (run n acts) A B ha hb) ∙ pointers-left n (accepted n acts) (model n (run n acts)) r A B,
+      sym (reports-are n (run n acts) A B ha hb) ∙ reports-left n (accepted n acts) (model n (run n acts)) r A B,
+    )

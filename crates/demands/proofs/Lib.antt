@@ -38,3 +38,4 @@ pub mod Never
 pub mod Exactly
 pub mod Asked
 pub mod Settled
+pub mod Demands

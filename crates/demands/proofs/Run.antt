@@ -1,8 +1,8 @@
 -- The stores that acts make: each is well formed, and its model is one that the acts taken reach. So what is proved of those models
 -- holds of these stores.
 -- Assumes nothing.
-use mathlib.Core.Path.{_≡_, refl, sym, subst, ap, _∙_}
-use mathlib.Core.Bool.{Bool, true, false, cond, _||_, true≢false}
+use mathlib.Core.Path.{_≡_, refl, sym, subst, _∙_}
+use mathlib.Core.Bool.{Bool, true, false, cond}
 use mathlib.Core.List.{List, [], _∷_}
 use Prim.Native.Nat.{ℕ, zero, suc, _≤_, _<_}
 use native.Mathlib.Omega.{arith}
@@ -10,16 +10,15 @@ use lib.Dec.{ltb, eqb, eqb·suc-zero}
 use borrow.Author.Tests.{ltb-false, eqb-true, eqb-false}
 use Rattle.books.specs.Books.{transitTop}
 use Rattle.books.proofs.Booleans.{left-false, right-false}
-use Rattle.store.specs.Store.{wellFormed, fresh}
+use Rattle.store.specs.Store.{wellFormed}
 use Rattle.store.proofs.Fresh.{fresh-formed}
 use Rattle.machine.specs.Acts.{Act, Name, act, codeOf, rowOf, MAKE, SEND, COPY, DROP, DELIVER, HEAR, ASK, RETIRE, SETTLE, HOLD}
 use Rattle.machine.specs.Effects.{after, valueOf}
 use Rattle.machine.specs.Machine.{rule, refusal, outcome, does}
 use Rattle.machine.proofs.Firsts.{NoneOf, positive, first-none}
-use Rattle.machine.proofs.Judged.{judged, positive-row, own, refusal-judged, does-formed}
+use Rattle.machine.proofs.Judged.{positive-row, own, refusal-judged, does-formed}
 use Rattle.machine.proofs.Refusals.{answers, refused-same}
 use Rattle.demands.specs.History.{run, accepted}
-use Rattle.demands.proofs.Model.{M}
 use Rattle.demands.proofs.Steps.{Step, step, Reached, begin, next}
 use Rattle.demands.proofs.Kept.{Kept, reached-kept}
 use Rattle.demands.proofs.Left.{Follows, reached-follows}

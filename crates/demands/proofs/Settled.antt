@@ -1,19 +1,17 @@
 -- Demand 3, settling, on the stores that acts make: while anything travels a delivery or a hearing is taken; no more are taken than the
 -- settling number; and where none is taken nothing travels, and the verdict is absent exactly when no port but the home holds the object.
 -- Assumes nothing.
-use mathlib.Core.Path.{_≡_, refl, sym, subst, ap, _∙_}
+use mathlib.Core.Path.{_≡_, refl, sym, _∙_}
 use mathlib.Core.Bool.{true}
 use mathlib.Core.Logic.{_⊎_, inl, inr, _↔_}
-use mathlib.Core.List.{List, [], _∷_}
-use Prim.Native.Nat.{ℕ, zero, suc, _+_, _-_, _*_, _≤_, _<_}
+use mathlib.Core.List.{List}
+use Prim.Native.Nat.{ℕ, zero, suc, _+_, _-_, _≤_, _<_}
 use native.Mathlib.Omega.{arith}
 use Rattle.books.specs.Books.{transitTop}
-use Rattle.lanes.specs.Lane.{pointerPlaces, reportPlaces}
 use Rattle.store.specs.Store.{wellFormed, inUse, home}
 use Rattle.machine.specs.Acts.{Act, Name, act, codeOf, MAKE, SEND, COPY, DROP, DELIVER, HEAR, ASK, RETIRE, SETTLE, HOLD}
 use Rattle.machine.specs.Effects.{after, valueOf}
-use Rattle.machine.specs.Effects as Effects
-use Rattle.machine.specs.Machine.{rule, refusal, does}
+use Rattle.machine.specs.Machine.{rule, does}
 use Rattle.machine.proofs.Judged.{does-formed}
 use Rattle.machine.proofs.Refusals.{answers}
 use Rattle.demands.specs.History.{run}

@@ -1,7 +1,7 @@
 -- A lane as the list of its entries, the oldest first, each read by f: adding puts an entry at the end, taking takes the front. One
 -- law for both widths.
 -- Assumes nothing.
-use mathlib.Core.Path.{_≡_, refl, sym, ap, _∙_}
+use mathlib.Core.Path.{_≡_, refl, ap, _∙_}
 use mathlib.Core.List.{List, [], _∷_, _++_}
 use Prim.Native.Nat.{ℕ, zero, suc, _+_, _-_, _<_, _≤_}
 use native.Mathlib.Numerals.{add-one}
@@ -45,4 +45,4 @@ module _ {X : Type 0} (w : ℕ) (f : List ℕ → X) where
         ap (λ (k : ℕ). listTo k (λ i. f (entry w i l))) c
         ∙ list-front (λ i. f (entry w i l)) (count l - 1)
         ∙ rw (count-taken w places l long few some, list-ext _ _ (count l - 1) (λ i h. ap f (entry-taken w places l long few some i h)))
-          (ap (λ (r : List X). f (entry w 0 l) ∷ r) (list-ext (λ i. f (entry w (suc i) l)) (λ i. f (entry w (i + 1) l)) (count l - 1) (λ i h. rw add-one)))
+        (ap (λ (r : List X). f (entry w 0 l) ∷ r) (list-ext (λ i. f (entry w (suc i) l)) (λ i. f (entry w (i + 1) l)) (count l - 1) (λ i h. rw add-one)))
