@@ -21,8 +21,9 @@ use Rattle.machine.specs.Effects.{happens, owned, oldestPointer, after}
 use Rattle.demands.proofs.Events.{Proper}
 use Rattle.demands.proofs.Model.{M, SameLanes, Added, Taken, Happens, Effect}
 use Rattle.demands.proofs.Steps.{Tellable, MayDeliver, Guard}
+use Rattle.demands.proofs.History.{at-lane, off-lane}
 use Rattle.demands.proofs.Bridge.{model, modelOf, model-viewed, long-viewed}
-use Rattle.demands.proofs.BridgeEvents.{lane-here, lane-other, Ranged}
+use Rattle.demands.proofs.BridgeEvents.{Ranged}
 use Rattle.demands.proofs.BridgeHappens.{happensIn, happens-viewed, happens-pointers, happens-model}
 use Rattle.demands.proofs.BridgeFormed.{seen, ranged, owned-low, owner-low, reports-short, pointers-lane, oldest-used}
 
@@ -121,8 +122,8 @@ module _ (n : ℕ) (few : transitTop n < 65535) where
           → Added A B o (m .pointers) (modelOf n (upd n (pointers A B) (added pointerWidth (o ∷ []) (v (pointers A B))) v) .pointers)
       unfolding upd
       added-lane o full = record {
-        here = rw (lane-here A B) (entries-added pointerWidth (λ e. getD e 0 0) pointerPlaces (o ∷ []) (v (pointers A B)) lane-long refl place);
-        rest = λ X Y d. rw (lane-other A B X Y d);
+        here = rw (at-lane B A) (entries-added pointerWidth (λ e. getD e 0 0) pointerPlaces (o ∷ []) (v (pointers A B)) lane-long refl place);
+        rest = λ X Y d. rw (off-lane B A Y X (λ k. d (k .1, k .0)));
       }
         where
           place : count (v (pointers A B)) < pointerPlaces
@@ -137,8 +138,8 @@ module _ (n : ℕ) (few : transitTop n < 65535) where
         taken-lane : Taken A B (getD (entry pointerWidth 0 (v (pointers A B))) 0 0) (m .pointers) (modelOf n (upd n (pointers A B) (taken pointerWidth (v (pointers A B))) v) .pointers)
         unfolding upd
         taken-lane = record {
-          here = rw (lane-here A B) (entries-taken pointerWidth (λ e. getD e 0 0) pointerPlaces (v (pointers A B)) lane-long (pointers-lane n s formed A B ha hb .few) waits);
-          rest = λ X Y d. rw (lane-other A B X Y d);
+          here = rw (at-lane B A) (entries-taken pointerWidth (λ e. getD e 0 0) pointerPlaces (v (pointers A B)) lane-long (pointers-lane n s formed A B ha hb .few) waits);
+          rest = λ X Y d. rw (off-lane B A Y X (λ k. d (k .1, k .0)));
         }
 
     pub send-effect : (A o B : ℕ) → Guard n SEND A o B m → wellFormed n (after n (act SEND A o B) s) ≡ true → Effect SEND A o B m (model n (after n (act SEND A o B) s))

@@ -21,9 +21,10 @@ use Rattle.demands.proofs.Events.{Proper}
 use Rattle.demands.proofs.Model.{M, Owned, Same, Heard, Made, Effect}
 use Rattle.demands.proofs.Steps.{MayHear, Guard}
 use Rattle.demands.proofs.Acts.{lowest-free}
+use Rattle.demands.proofs.History.{at-lane, off-lane}
 use Rattle.demands.proofs.Bridge.{model, modelOf, model-viewed, long-viewed, reportsIn}
 use Rattle.demands.proofs.BridgeCounts.{lowest-is}
-use Rattle.demands.proofs.BridgeEvents.{lane-here, lane-other, Ranged, heardIn, hears-viewed}
+use Rattle.demands.proofs.BridgeEvents.{Ranged, heardIn, hears-viewed}
 use Rattle.demands.proofs.BridgeHappens.{hears-model}
 use Rattle.demands.proofs.BridgeFormed.{seen, ranged, reports-short, reports-lane, oldest-proper, oldest-low}
 use Rattle.demands.proofs.BridgeActs.{happened, send-effect, copy-effect, drop-effect, deliver-effect}
@@ -118,8 +119,8 @@ module _ (n : ℕ) (few : transitTop n < 65535) (s : List ℕ) (formed : wellFor
           held = λ p o. refl;
           pointers = λ X Y. refl;
           taken = record {
-            here = rw (lane-here A B) (entries-taken reportWidth (reported A) reportPlaces (v (reports A B)) lane-long short waits ∙ ap (λ (f : Event). f ∷ reportsIn A (taken reportWidth (v (reports A B)))) q);
-            rest = λ X Y d. rw (lane-other A B X Y d);
+            here = rw (at-lane B A) (entries-taken reportWidth (reported A) reportPlaces (v (reports A B)) lane-long short waits ∙ ap (λ (f : Event). f ∷ reportsIn A (taken reportWidth (v (reports A B)))) q);
+            rest = λ X Y d. rw (off-lane B A Y X (λ k. d (k .1, k .0)));
           };
           books = record { heard = k .heard; transit = k .transit };
         })

@@ -1,12 +1,9 @@
 -- An event that happens in the bytes, or is heard, is the model's: stretch by stretch, over the frame.
 -- Assumes nothing.
-use mathlib.Core.Path.{_≡_, refl, sym, _∙_}
-use mathlib.Core.Bool.{true, false, _&&_, and-false}
+use mathlib.Core.Path.{_≡_, refl, _∙_}
 use mathlib.Core.List.{List}
 use Prim.Native.Nat.{ℕ, _+_, _-_, _≤_, _<_}
 use native.Mathlib.Omega.{arith}
-use native.Mathlib.Decide.{ℕ-discrete}
-use lib.Dec.{eqb}
 use lib.ListN.{getD}
 use borrow.Author.Tests.{eq-eqb, ne-eqb}
 use Rattle.paper.specs.Paper.{Event}
@@ -20,17 +17,6 @@ use Rattle.store.proofs.Frame.{port-inside, lane-inside, upd, Viewed, read-view
 use Rattle.machine.specs.Effects.{hears, tells, happens}
 use Rattle.demands.proofs.Events.{Proper, names-port}
 use Rattle.demands.proofs.Bridge.{long-viewed, row-long}
-
--- one lane among all: it, and every other
-pub lane-here : (a b : ℕ) → (eqb b b && eqb a a) ≡ true
-lane-here a b = rw (eq-eqb a a refl, eq-eqb b b refl)
-
-pub lane-other : (a b x y : ℕ) → ¬ ((x ≡ a) × (y ≡ b)) → (eqb b y && eqb a x) ≡ false
-lane-other a b x y d = go (ℕ-discrete x a)
-  where
-    go : Dec (x ≡ a) → (eqb b y && eqb a x) ≡ false
-    go (yes q) = rw (ne-eqb b y (λ r. d (q, sym r)))
-    go (no q) = rw (ne-eqb a x (λ r. q (sym r)), and-false (eqb b y))
 
 module _ (n : ℕ) where
   -- the counts of the stretches v are in range

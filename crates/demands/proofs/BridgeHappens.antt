@@ -19,10 +19,11 @@ use Rattle.store.proofs.Frame.{lane-inside, upd, Viewed}
 use Rattle.machine.specs.Effects.{happens}
 use Rattle.demands.proofs.Events.{one, gain, loss, Proper, at-other, names-port, one-object, one-names}
 use Rattle.demands.proofs.Model.{SameLanes, Hears, Happens}
+use Rattle.demands.proofs.History.{at-lane, off-lane}
 use Rattle.demands.proofs.Bridge.{modelOf, long-viewed, row-long, reportsIn}
 use Rattle.demands.proofs.BridgeReports.{reported-report}
 use Rattle.demands.proofs.BridgeRows.{holding-moves, held-moves, transit-moves}
-use Rattle.demands.proofs.BridgeEvents.{lane-here, lane-other, Ranged, heardIn, heldIn, toldIn, held-viewed, happens-home, happens-away}
+use Rattle.demands.proofs.BridgeEvents.{Ranged, heardIn, heldIn, toldIn, held-viewed, happens-home, happens-away}
 
 module _ (n : ℕ) (few : transitTop n < 65535) (s : List ℕ) (v : Stretch → List ℕ) (seen : Viewed n s v) (e : Event) (proper : Proper n e)
     (low : e .object < objectLimit) (before : Ranged n v) where
@@ -97,12 +98,12 @@ module _ (n : ℕ) (few : transitTop n < 65535) (s : List ℕ) (v : Stretch → 
     pub told-put : modelOf n (toldIn n e h v) .reports a h ≡ modelOf n v .reports a h ++ (e ∷ [])
     unfolding upd
     told-put =
-        rw (lane-here a h, entries-added reportWidth (reported a) reportPlaces (report e) (v (reports a h)) (long-viewed n s v seen (reports a h) (lane-inside n a h (proper .port) port)) refl room)
+        rw (at-lane h a, entries-added reportWidth (reported a) reportPlaces (report e) (v (reports a h)) (long-viewed n s v seen (reports a h) (lane-inside n a h (proper .port) port)) refl room)
         (ap (λ (f : Event). reportsIn a (v (reports a h)) ++ (f ∷ [])) (reported-report n e proper low))
 
     pub told-rest : (A B : ℕ) → ¬ ((A ≡ a) × (B ≡ h)) → modelOf n (toldIn n e h v) .reports A B ≡ modelOf n v .reports A B
     unfolding upd
-    told-rest A B d = rw (lane-other a h A B d)
+    told-rest A B d = rw (off-lane h a B A (λ k. d (k .1, k .0)))
 
 -- AN EVENT HAPPENS: its object is of home h, and where that is not its port its report lane has room
 module _ (n : ℕ) (few : transitTop n < 65535) (s : List ℕ) (v : Stretch → List ℕ) (seen : Viewed n s v) (e : Event) (proper : Proper n e)
