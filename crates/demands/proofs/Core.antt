@@ -25,6 +25,7 @@ pub record Laned (n : ℕ) (f : Lanes ℕ) : Type 0 where
   pub sender : (A B : ℕ) → n ≤ A → f A B ≡ []
   pub receiver : (A B : ℕ) → n ≤ B → f A B ≡ []
 
+-- the same lanes
 pub laned-same : (n : ℕ) (f g : Lanes ℕ) → SameLanes f g → Laned n f → Laned n g
 laned-same n f g s w = record {
   narrow = λ A B. rw (s A B) (w .narrow A B);
@@ -37,6 +38,7 @@ laned-same n f g s w = record {
 abbrev pub Void : ℕ → ℕ → ℕ → M → Type 0
 Void n p o m = (m .held p o ≡ 0) × (m .heard p o ≡ 0) × (m .transit p o ≡ transitZero n)
 
+-- every home's invariant; owners are ports; of a free object and outside the ports nothing is kept; holdings and lanes in range
 pub record Core (n : ℕ) (m : M) : Type 0 where
   pub home : (h : ℕ) → Home n h m
   pub owners : (o : ℕ) → m .owner o ≤ n
@@ -60,9 +62,6 @@ module _ (n : ℕ) (m : M) (g : Core n m) (A B : ℕ) where
   pub report-sender : n ≤ A → m .reports A B ≡ []
   report-sender k = all-never (λ e. (e .at ≡ A) × (e .at < n)) (m .reports A B)
       (all-both _ _ _ (m .reports A B) (λ e q w. (q, w .port)) report-at report-proper) (λ e w. omega (arith, w .0, w .1))
-
-  pub report-receiver : n ≤ B → m .reports A B ≡ []
-  report-receiver k = all-never _ (m .reports A B) report-named (λ e w. omega (arith, w, g .owners (e .object)))
 
 module _ (n : ℕ) where
   -- an event about an object in use, with room on its report lane

@@ -70,6 +70,7 @@ HoldingOf o p E k = k + count delete o p E ≡ count receive o p E + count creat
 abbrev pub TransitOf : ℕ → ℕ → ℕ → List Event → ℕ → Type 0
 TransitOf z o p E k = k + count receive o p E ≡ z + count send o p E
 
+-- the true holdings and the pointers on the way count what happened; the books what was heard
 pub record Counted (n : ℕ) (acts : List Act) (m : M) : Type 0 where
   pub held : (p o : ℕ) → HoldingOf o p (happened o acts) (m .held p o)
   pub way : (p o : ℕ) → TransitOf 0 o p (happened o acts) (onWay n (m .pointers) p o)

@@ -18,6 +18,7 @@ use Rattle.demands.proofs.Order.{Count}
 unfoldable pub one : Kind → ℕ → ℕ → Event → ℕ
 one k o Y e = cond (eqb (number (e .kind)) (number k) && concerns o Y e) 1 0
 
+-- one event more, and none
 pub count-more : (k : Kind) (o Y : ℕ) (e : Event) (E : List Event) → count k o Y (e ∷ E) ≡ one k o Y e + count k o Y E
 unfolding one count
 count-more k o Y e E = refl
@@ -68,6 +69,7 @@ roomCount o p = record { needs = λ e. 0 < gain o p e; up = loss o p; down = gai
 abbrev oneOf : Kind → Kind → Bool → ℕ
 oneOf v k b = cond (eqb (number v) (number k) && b) 1 0
 
+-- an event counts at most once
 pub one-le : (k : Kind) (o Y : ℕ) (e : Event) → one k o Y e ≤ 1
 unfolding one
 one-le k o Y e = go (eqb (number (e .kind)) (number k) && concerns o Y e)

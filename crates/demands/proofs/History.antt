@@ -20,6 +20,7 @@ pub record Left {E : Type 0} (all : List E) (k : ℕ) (lane : List E) : Type 0 w
   pub left : drop k all ≡ lane
   pub few : k ≤ length all
 
+-- one more on it; one taken from it
 pub left-added : {E : Type 0} (x : E) (all : List E) (k : ℕ) (lane : List E) → Left all k lane → Left (all ++ (x ∷ [])) k (lane ++ (x ∷ []))
 left-added x all k lane w = record {
   left = drop-append-le k all (x ∷ []) (w .few) ∙ ap (λ l. l ++ (x ∷ [])) (w .left);

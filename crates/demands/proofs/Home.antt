@@ -20,6 +20,7 @@ abbrev pub Holdings : ℕ → ℕ → ℕ → M → Type 0
 Holdings h X o m = m .heard X o + total (gain o X) (m .reports X h) ≡ m .held X o + total (loss o X) (m .reports X h)
 
 module _ (n h : ℕ) where
+  -- what this home's books, the report lanes to it and the pointers to its objects keep
   pub record Home (m : M) : Type 0 where
     pub order : List Event
     pub lanes : (X : ℕ) → m .reports X h ≡ from X order
@@ -181,6 +182,7 @@ pub record Untouched (n h : ℕ) (m m′ : M) : Type 0 where
   pub way : (p o : ℕ) → m .owner o ≡ h + 1 → onWay n (m′ .pointers) p o ≡ onWay n (m .pointers) p o
   pub reports : (X : ℕ) → m′ .reports X h ≡ m .reports X h
 
+-- then it keeps what it kept
 pub untouched-home : (n h : ℕ) (m m′ : M) → Untouched n h m m′ → Home n h m → Home n h m′
 untouched-home n h m m′ u i = record {
   order = i .order;

@@ -176,6 +176,7 @@ reached-follows n acts m (begin f) = record {
 }
 reached-follows n acts m (next {acts = before} {m = m₀} r (step k A o B w t)) = act-follows k A o B before m₀ m t (reached-follows n before m₀ r)
 
+-- lane by lane
 pub pointers-left : (n : ℕ) (acts : List Act) (m : M) → Reached n acts m → (A B : ℕ) → m .pointers A B ≡ undelivered A B acts
 pointers-left n acts m r A B = sym (reached-follows n acts m r .pointers A B .left)
 

@@ -25,14 +25,10 @@ module _ {E : Type 0} (P : E → Type 0) where
   all-snoc [] e w p = (p, tt)
   all-snoc (f ∷ l) e w p = (w .0, all-snoc l e (w .1) p)
 
-  -- of the first, and of the rest
+  -- of the first; of no member
   pub all-head : (e : E) (l : List E) → All P (e ∷ l) → P e
   unfolding All
   all-head e l w = w .0
-
-  pub all-tail : (e : E) (l : List E) → All P (e ∷ l) → All P l
-  unfolding All
-  all-tail e l w = w .1
 
   pub all-nil : All P []
   unfolding All

@@ -20,6 +20,7 @@ unfoldable pub without : ℕ → List Event → List Event
 without X [] = []
 without X (e ∷ l) = cond (eqb (e .at) X) l (e ∷ without X l)
 
+-- a report of X at the front, and one of another port
 pub from-same : (X : ℕ) (e : Event) (l : List Event) → e .at ≡ X → from X (e ∷ l) ≡ e ∷ from X l
 from-same X e l q = those-yes (λ f. eqb (f .at) X) e l (eq-eqb (e .at) X q)
 

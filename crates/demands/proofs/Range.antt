@@ -1,4 +1,4 @@
--- The transits' range, and that nothing which an act lowers falls below 0.
+-- The transits' range, and that nothing which a hearing lowers falls below 0.
 -- Assumes nothing.
 use mathlib.Core.Path.{_≡_, refl, sym, ap, _∙_}
 use mathlib.Core.List.{List, [], _∷_}
@@ -16,7 +16,6 @@ use Rattle.demands.proofs.Order.{from, from-same, from-other, fine-head
 use Rattle.demands.proofs.Events.{one, loss, Proper, Holder, holderCount, one-le, at-other, one-concerns, loss-holder}
 use Rattle.demands.proofs.Sums.{sum-le-but, length-from}
 use Rattle.demands.proofs.Model.{M, onWay}
-use Rattle.demands.proofs.Home.{home-hears-itself}
 use Rattle.demands.proofs.Hearing.{oldest-named, oldest-at, oldest-proper}
 use Rattle.demands.proofs.Core.{Core}
 
@@ -89,26 +88,3 @@ module _ (n : ℕ) (m : M) (g : Core n m) (A h : ℕ) {e : Event} {l : List Even
           port (yes q) = (let f : 0 < m .heard p o = fine-head (holderCount o p) e l (m .heard p o) 0
               (rw (ap (λ (X : ℕ). m .reports X h) (sym q ∙ oldest-at n A h m (g .home h) lane) ∙ lane) at (g .home h .holder p o (rw (w .1) at (oldest-named n A h m (g .home h) lane)))) w in
               omega (arith, one-le delete o p e))
-
--- what an event at its home lowers stands above 0: of the books a holding that the home has, a transit that is still to be received
-pub event-holding : (n : ℕ) (m : M) → Core n m → (e : Event) → Proper n e → m .owner (e .object) ≡ e .at + 1
-    → ((p o : ℕ) → loss o p e ≤ m .held p o) → (p o : ℕ) → loss o p e ≤ m .heard p o
-event-holding n m g e w mine able p o = go (ℕ-discrete (loss o p e) 0)
-  where
-    go : Dec (loss o p e ≡ 0) → loss o p e ≤ m .heard p o
-    go (yes z) = omega arith
-    go (no d) = port (ℕ-discrete (e .at) p)
-      where
-        port : Dec (e .at ≡ p) → loss o p e ≤ m .heard p o
-        port (no r) = omega (arith, at-other n o p e w r .2)
-        port (yes r) = (let q : m .owner o ≡ p + 1 = (let u : e .object ≡ o = one-concerns delete o p e (omega arith) .0 in omega (arith, ap (m .owner) u)) in
-            let k : m .heard p o ≡ m .held p o = home-hears-itself n p m (g .home p) o q in omega (arith, able p o))
-
-pub event-transit : (n : ℕ) (m : M) → Core n m → (e : Event) → m .owner (e .object) ≡ e .at + 1
-    → ((p o : ℕ) → one receive o p e ≤ onWay n (m .pointers) p o) → (p o : ℕ) → one receive o p e ≤ m .transit p o
-event-transit n m g e mine way p o = go (ℕ-discrete (one receive o p e) 0)
-  where
-    go : Dec (one receive o p e ≡ 0) → one receive o p e ≤ m .transit p o
-    go (yes z) = omega arith
-    go (no d) = (let u : e .object ≡ o = one-concerns receive o p e (omega arith) .0 in
-        omega (arith, way p o, transit-least n m g o (e .at) (ap (m .owner) (sym u) ∙ mine) p))

@@ -95,6 +95,7 @@ pointerWeight A B x = 2
 abbrev pub reportWeight : Weight Event
 reportWeight A B e = 1
 
+-- the settling number
 unfoldable pub settling : ℕ → M → ℕ
 settling n m = weighed n pointerWeight (m .pointers) + weighed n reportWeight (m .reports)
 

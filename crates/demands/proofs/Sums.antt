@@ -29,6 +29,7 @@ sum-grown (suc n) A d f g l e h = go (ℕ-discrete A n) (λ k. sum-grown n A d f
     go (yes q) ih = omega (arith, sum-ext g f n (λ k l. h k (λ r. omega arith)), rw q at e)
     go (no r) ih = omega (arith, ih (omega arith), h n (λ k. r (sym k)))
 
+-- no term above b
 pub sum-le : (n b : ℕ) (f : ℕ → ℕ) → ((k : ℕ) → k < n → f k ≤ b) → sumTo n f ≤ n * b
 unfolding sumTo
 sum-le zero b f h = omega arith
