@@ -1,18 +1,21 @@
 -- What the full check's tests are, by the ways that the code decides them: the counts and the entries.
 -- Assumes nothing.
-use mathlib.Core.Path.{_≡_, refl, sym, ap, _∙_}
-use mathlib.Core.Bool.{Bool, true, false, not, _&&_, _||_, and-false}
-use mathlib.Core.List.{List, [], _∷_}
+use mathlib.Core.Path.{_≡_}
+use mathlib.Core.Bool.{Bool, false, not, _||_}
+use mathlib.Core.List.{List}
 use Prim.Native.Nat.{ℕ, _+_, _-_, _*_, _/_, _%_, _<_, _≤_, max}
 use lib.Dec.{leb, eqb}
 use lib.ListN.{length, getD, take, drop, List·getD-eq-default}
 use borrow.Author.Tests.{lt-ltb, le-ltb, eq-eqb, ne-eqb}
 use native.Mathlib.Omega.{arith}
 use Rattle.paper.specs.Paper.{send, number}
-use Rattle.books.specs.Books.{objectLimit, holdingLimit, transitZero, transitTop}
+use Rattle.books.specs.Numbers.{every}
+use Rattle.books.specs.Books.{objectLimit, holdingLimit, transitZero, transitTop, transitAt}
 use Rattle.books.proofs.Loops.{leb-max, eqb-max}
-use Rattle.store.specs.Layout.{Stretch, long, place, read}
+use Rattle.store.specs.Layout.{Stretch, held, heard, transit, long, place, read}
 use Rattle.store.specs.Store.{holdingFormed, transitFormed, pointerRight, reportRight}
+use Rattle.store.proofs.Frame.{read-is}
+use Rattle.form.specs.Check.{portHoldings, portTransits}
 
 -- an object's holdings, and its transit, from the faults of their parts
 pub holding-faults : (p b t h m v o w d q r : ℕ) → m ≡ max t h → eqb v 0 ≡ leb m holdingLimit → eqb o 0 ≡ (not (eqb b 0) || eqb m 0) → w ≡ max v o
@@ -25,8 +28,30 @@ transit-faults n b x v d o r ev ed eo er = rw (er, eqb-max, ev, eo, ed)
 
 -- a part of the store that stands where a stretch does is the stretch
 pub part-read : (n : ℕ) (c : Stretch) (s : List ℕ) (a e : ℕ) → a ≡ place n c → e ≡ place n c + long n c → take (e - a) (drop a s) ≡ read n c s
-unfolding read
-part-read n c s a e p q = let k : e - a ≡ long n c = omega arith in rw (k, p)
+part-read n c s a e p q = rw p (read-is n c s e q)
+
+-- one port's holdings, and its transits, tested on the parts that the code lends
+module _ (n p : ℕ) (obj s : List ℕ) (r : Bool) where
+  -- where the port's true holdings, its heard holdings and its transits begin
+  abbrev pub truesAt : ℕ
+  truesAt = objectLimit + objectLimit * p
+
+  abbrev pub heardAt : ℕ
+  heardAt = truesAt + objectLimit * n
+
+  abbrev pub transitsAt : ℕ
+  transitsAt = objectLimit + 2 * objectLimit * n + 2 * objectLimit * p
+
+  pub row-holdings : r ≡ every objectLimit (λ o. holdingFormed p (getD obj o 0) (getD (take (truesAt + objectLimit - truesAt) (drop truesAt s)) o 0)
+      (getD (take (heardAt + objectLimit - heardAt) (drop heardAt s)) o 0)) → r ≡ portHoldings n obj s p
+  row-holdings h =
+      let t = part-read n (held p) s truesAt (truesAt + objectLimit) (omega arith) (omega arith) in
+      let u = part-read n (heard p) s heardAt (heardAt + objectLimit) (omega arith) (omega arith) in
+      rw (t, u) at h
+
+  pub row-transits : r ≡ every objectLimit (λ o. transitFormed n (getD obj o 0) (transitAt o (take (transitsAt + 2 * objectLimit - transitsAt) (drop transitsAt s))))
+      → r ≡ portTransits n obj s p
+  row-transits h = rw (part-read n (transit p) s transitsAt (transitsAt + 2 * objectLimit) (omega arith) (omega arith)) at h
 
 -- a pointer above the objects names none
 pub pointer-far : (obj e : List ℕ) → length obj ≤ getD e 0 0 → pointerRight obj e ≡ false

@@ -1,6 +1,6 @@
 -- Well formed as the full check goes through it: the size, the object bytes, the counts, then the lanes of each kind.
 -- Assumes nothing.
-use mathlib.Core.Path.{_≡_, refl, sym, ap, _∙_}
+use mathlib.Core.Path.{_≡_, refl, ap, _∙_}
 use mathlib.Core.Bool.{Bool, _&&_}
 use mathlib.Core.List.{List}
 use Prim.Native.Nat.{ℕ, _+_, _*_}
@@ -12,8 +12,8 @@ use Rattle.books.specs.Books.{objectLimit}
 use Rattle.books.proofs.Numbers.{every-ext}
 use Rattle.lanes.specs.Lane.{pointerPlaces, reportPlaces, pointerWidth, reportWidth, laneFormed}
 use Rattle.store.specs.Layout.{Stretch, layout, total, objects, pointers, reports, size, read}
-use Rattle.store.specs.Store.{holdingFormed, transitFormed, heldOf, heardOf, transitOf, wellFormed}
-use Rattle.form.specs.Check.{entryRight, rowFormed, lanesFormed}
+use Rattle.store.specs.Store.{wellFormed}
+use Rattle.form.specs.Check.{portHoldings, portTransits, entryRight, rowFormed, lanesFormed}
 
 -- the lanes that stand from place at on are those of a table of stretches
 lanes-read : (w places n at : ℕ) (obj s : List ℕ) (c : ℕ → ℕ → Stretch)
@@ -40,10 +40,10 @@ module _ (n : ℕ) (s : List ℕ) where
   objectsTest = every objectLimit (λ o. leb (getD obj o 0) n)
 
   abbrev pub holdingsTest : Bool
-  holdingsTest = every n (λ p. every objectLimit (λ o. holdingFormed p (getD obj o 0) (heldOf n p o s) (heardOf n p o s)))
+  holdingsTest = every n (portHoldings n obj s)
 
   abbrev pub transitsTest : Bool
-  transitsTest = every n (λ p. every objectLimit (λ o. transitFormed n (getD obj o 0) (transitOf n p o s)))
+  transitsTest = every n (portTransits n obj s)
 
   abbrev pub pointersTest : Bool
   pointersTest = lanesFormed pointerWidth pointerPlaces n obj (start 4) s

@@ -8,7 +8,9 @@ ghost use lib.ListN.{length, getD};
 ghost use Rattle.books.specs.Numbers.{every};
 ghost use Rattle.books.specs.Books.{objectLimit, transitAt};
 ghost use Rattle.store.specs.Layout.{place, transit, pointers};
-ghost use Rattle.store.specs.Store.{holdingFormed, transitFormed, heldOf, heardOf, transitOf};
+ghost use Rattle.store.specs.Store.{holdingFormed, transitFormed};
+ghost use Rattle.form.specs.Check.{portHoldings, portTransits};
+use books::transit_at;
 
 pub const OBJECTS: usize = 64; // objects
 
@@ -84,7 +86,7 @@ fn holdings_row(p: u8, obj: &[u8], t: &[u8], h: &[u8]) -> bool
 // Every port's holdings.
 pub fn holdings_formed(obj: &[u8], s: &[u8], n: usize) -> bool
     requires { ⌜ (n ≤ 16) × (length (now obj) ≡ objectLimit) × (place n (transit 0) ≤ length (now s)) ⌝ }
-    ensures { λ r. ⌜ r ≡ every n (λ p. every objectLimit (λ o. holdingFormed p (getD (now (obj .entry)) o 0) (heldOf n p o (now (s .entry))) (heardOf n p o (now (s .entry))))) ⌝ }
+    ensures { λ r. ⌜ r ≡ every n (portHoldings n (now (obj .entry)) (now (s .entry))) ⌝ }
 {
     let mut p = 0;
     while p < n {
@@ -98,16 +100,6 @@ pub fn holdings_formed(obj: &[u8], s: &[u8], n: usize) -> bool
         p += 1;
     }
     true
-}
-
-// A transit as it is stored, two bytes as a number. A function of its own, so that both are read at once.
-fn transit_at(row: &[u8], o: usize) -> u16
-    requires { ⌜ 2 * o + 1 < length (now row) ⌝ }
-    ensures { λ r. ⌜ r ≡ transitAt o (now (row .entry)) ⌝ }
-{
-    let low = row[2 * o] as u16;
-    let high = row[2 * o + 1] as u16;
-    low + 256 * high
 }
 
 // One object's transit x, as it is stored; b is its object byte.
@@ -137,7 +129,7 @@ fn transits_row(n: u16, obj: &[u8], row: &[u8]) -> bool
 // Every port's transits.
 pub fn transits_formed(obj: &[u8], s: &[u8], n: usize) -> bool
     requires { ⌜ (0 < n) × (n ≤ 16) × (length (now obj) ≡ objectLimit) × (place n (pointers 0 0) ≤ length (now s)) ⌝ }
-    ensures { λ r. ⌜ r ≡ every n (λ p. every objectLimit (λ o. transitFormed n (getD (now (obj .entry)) o 0) (transitOf n p o (now (s .entry))))) ⌝ }
+    ensures { λ r. ⌜ r ≡ every n (portTransits n (now (obj .entry)) (now (s .entry))) ⌝ }
 {
     let mut p = 0;
     while p < n {

@@ -1,23 +1,20 @@
--- `holdings_formed`: every port so far passes; a port's rows stand where its stretches do.
+-- `holdings_formed`: every port so far passes.
 -- Assumes nothing.
 use mathlib.Core.Path.{_≡_, sym, _∙_}
 use mathlib.Core.Bool.{true}
-use Prim.Native.Nat.{_+_, _-_, _*_, _≤_}
-use lib.ListN.{getD}
+use Prim.Native.Nat.{_-_, _≤_}
 use borrow.Author.Needs.{needs}
 use borrow.Author.Tests.{not-true, not-false}
 use native.Mathlib.Omega.{arith}
 use Rattle.books.specs.Numbers.{every}
-use Rattle.books.specs.Books.{objectLimit}
 use Rattle.books.proofs.Loops.{every-none, passed-more, every-false}
-use Rattle.store.specs.Layout.{held, heard}
-use Rattle.store.specs.Store.{holdingFormed, heldOf, heardOf}
-use Rattle.form.proofs.Checked.{part-read}
+use Rattle.form.specs.Check.{portHoldings}
+use Rattle.form.proofs.Checked.{row-holdings}
 use Rattle.form.proofs.counts.holdings_formed.Statement.{statement}
 use Rattle.form.proofs.counts.holdings_formed.Tie as tie
 
 abbrev Inv-loop : tie.InvT-loop
-Inv-loop obj s n p₀ p = (p ≤ n) × (every p (λ k. every objectLimit (λ o. holdingFormed k (getD obj o 0) (heldOf n k o s) (heardOf n k o s))) ≡ true)
+Inv-loop obj s n p₀ p = (p ≤ n) × (every p (portHoldings n obj s) ≡ true)
 
 abbrev μ-loop : tie.MeasureT-loop
 μ-loop obj s n p₀ p = n - p
@@ -27,29 +24,15 @@ loop-holds c = (omega arith, every-none _)
 
 returns : tie.Need-returns Inv-loop μ-loop
 returns c =
-    let f = c .before in
-    let l = f .before .before .before .before in
+    let l = c .before .before .before .before .before in
     let a = l .before .before .before .args in
-    let p = l .loop .p in
-    let t = objectLimit + objectLimit * p in
-    let h = t + objectLimit * a .n in
-    let x = part-read (a .n) (held p) (a .s .now) t (t + objectLimit) (omega arith) (omega arith) in
-    let y = part-read (a .n) (heard p) (a .s .now) h (h + objectLimit) (omega arith) (omega arith) in
-    let r = rw (x, y) at (f .holdings-row .ensures) in
-    sym (every-false (λ k. every objectLimit (λ o. holdingFormed k (getD (a .obj .now) o 0) (heldOf (a .n) k o (a .s .now)) (heardOf (a .n) k o (a .s .now)))) (a .n) p (omega arith) (sym r ∙ not-true _ (c .if1 .taken)))
+    sym (every-false (portHoldings (a .n) (a .obj .now) (a .s .now)) (a .n) (l .loop .p) (omega arith) (sym (row-holdings (a .n) (l .loop .p) (a .obj .now) (a .s .now) _ (c .before .holdings-row .ensures)) ∙ not-true _ (c .if1 .taken)))
 
 loop-again : tie.Need-loop-again Inv-loop μ-loop
 loop-again c =
-    let f = c .before in
-    let l = f .before .before .before .before in
+    let l = c .before .before .before .before .before in
     let a = l .before .before .before .args in
-    let p = l .loop .p in
-    let t = objectLimit + objectLimit * p in
-    let h = t + objectLimit * a .n in
-    let x = part-read (a .n) (held p) (a .s .now) t (t + objectLimit) (omega arith) (omega arith) in
-    let y = part-read (a .n) (heard p) (a .s .now) h (h + objectLimit) (omega arith) (omega arith) in
-    let r = rw (x, y) at (f .holdings-row .ensures) in
-    (omega arith, passed-more (λ k. every objectLimit (λ o. holdingFormed k (getD (a .obj .now) o 0) (heldOf (a .n) k o (a .s .now)) (heardOf (a .n) k o (a .s .now)))) p (l .loop .inv .1) (sym r ∙ not-false _ (c .if1 .left)))
+    (omega arith, passed-more (portHoldings (a .n) (a .obj .now) (a .s .now)) (l .loop .p) (l .loop .inv .1) (sym (row-holdings (a .n) (l .loop .p) (a .obj .now) (a .s .now) _ (c .before .holdings-row .ensures)) ∙ not-false _ (c .if1 .left)))
 
 returns-2 : tie.Need-returns-2 Inv-loop μ-loop
 returns-2 c =

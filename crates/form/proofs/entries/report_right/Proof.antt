@@ -34,12 +34,12 @@ returns-2 c =
 returns-3 : tie.Need-returns-3
 returns-3 c =
     let a = c .before .before .before .before .before .before .args in
-    sym (nowhere (a .n) (a .obj .now) (a .a) (a .b) (a .e .now) (c .before .before .if1 .left) (c .before .if2 .left) (c .if3 .taken))
+    sym (nowhere (a .n) (a .obj .now) (a .a) (a .b) (a .e .now) (c .before .before .if1 .left) (c .before .if2 .left) (omega arith))
 
 returns-4 : tie.Need-returns-4
 returns-4 c =
     let a = c .before .before .before .before .before .before .args in
-    sym (somewhere (a .n) (a .obj .now) (a .a) (a .b) (a .e .now) (c .before .before .if1 .left) (c .before .if2 .left) (c .if3 .left))
+    sym (somewhere (a .n) (a .obj .now) (a .a) (a .b) (a .e .now) (c .before .before .if1 .left) (c .before .if2 .left) (omega arith))
 
 pub report-right-spec : {M : Type 1} → statement M
 report-right-spec = tie.close (tie.spec (λ c. search needs) cast-x (λ c. search needs) cast-q (λ c. search needs) cast-if1 (λ c. search needs) returns returns-2 returns-3 returns-4)

@@ -1,6 +1,5 @@
 -- `fresh_of`: a wrong size is not written; else zeros, and the transits put in their middle.
 -- Assumes nothing.
-use mathlib.Core.Path.{sym, _∙_}
 use Prim.Native.Nat.{_+_, _*_}
 use borrow.Author.Needs.{needs}
 use native.Mathlib.Omega.{arith}
@@ -10,7 +9,7 @@ use Rattle.form.proofs.start.fresh_of.Statement.{statement}
 use Rattle.form.proofs.start.fresh_of.Tie as tie
 
 returns : tie.Need-returns
-returns c = start-wrong _ _ (λ q. c .if1 .taken (q ∙ sym (c .before .size-of .ensures)))
+returns c = start-wrong _ _ (λ q. omega arith)
 
 returns-2 : tie.Need-returns-2
 returns-2 c =
@@ -19,7 +18,7 @@ returns-2 c =
     let i = z .before .before in
     let a = i .before .before .before .args in
     let f = objectLimit + 2 * objectLimit * a .n in
-    start-done (a .n) (a .store .now) _ _ f (f + 2 * objectLimit * a .n) (i .if1 .left ∙ i .before .size-of .ensures) (z .clear .ensures) (w .write-words .ensures)
+    start-done (a .n) (a .store .now) _ _ f (f + 2 * objectLimit * a .n) (omega arith) (z .clear .ensures) (w .write-words .ensures)
     (omega arith) (omega arith)
 
 pub fresh-of-spec : {M : Type 1} → statement M
