@@ -31,6 +31,7 @@ use Rattle.demands.proofs.Never.{taken-silent}
 use Rattle.demands.proofs.Exactly.{used-owner}
 
 module _ (n : ℕ) (few : transitTop n < 65535) (acts : List Act) (o : ℕ) where
+  -- the store that the acts have made, its model, and ASK of o
   abbrev s : List ℕ
   s = run n acts
 

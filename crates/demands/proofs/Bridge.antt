@@ -40,6 +40,7 @@ module _ (n : ℕ) where
   abbrev pub model : List ℕ → M
   model s = modelOf (view n s)
 
+  -- the model of a store whose stretches are v
   pub model-viewed : (s : List ℕ) (v : Stretch → List ℕ) → Viewed n s v → model s ≡ modelOf v
   model-viewed s v k = ap modelOf (k .seen)
 
@@ -47,6 +48,7 @@ module _ (n : ℕ) where
   pub long-viewed : (s : List ℕ) (v : Stretch → List ℕ) → Viewed n s v → (c : Stretch) → inside n c ≡ true → length (v c) ≡ long n c
   long-viewed s v k c h = ap length (sym (read-viewed n c s v k h)) ∙ read-long n c s (k .sized) h
 
+  -- so are a port's rows
   pub row-long : (s : List ℕ) (v : Stretch → List ℕ) → Viewed n s v → (p : ℕ) → p < n
       → (length (v (held p)) ≡ objectLimit) × (length (v (heard p)) ≡ objectLimit) × (length (v (transit p)) ≡ 2 * objectLimit)
   row-long s v k p h =
@@ -60,9 +62,11 @@ module _ (n : ℕ) where
 
   -- THE READERS, in the model's words
   module _ (s : List ℕ) where
+    -- an object's owner is its object byte
     pub owner-is : (o : ℕ) → model s .owner o ≡ objectByte n o s
     owner-is o = rw (view-in n objects s refl)
 
+    -- a port's true holding, heard holding and heard transit of an object
     pub held-is : (p o : ℕ) → p < n → model s .held p o ≡ heldOf n p o s
     held-is p o h = rw (view-in n (held p) s (port-inside n p h))
 
@@ -72,6 +76,7 @@ module _ (n : ℕ) where
     pub transit-is : (p o : ℕ) → p < n → o < objectLimit → model s .transit p o ≡ transitOf n p o s
     transit-is p o h l = rw (lt-ltb p n h, lt-ltb o objectLimit l, view-in n (transit p) s (port-inside n p h))
 
+    -- what stands on the lanes from one port to another
     pub pointers-are : (A B : ℕ) → A < n → B < n → model s .pointers A B ≡ pointersOn n A B s
     pointers-are A B h k = rw (view-in n (pointers A B) s (lane-inside n A B h k))
 

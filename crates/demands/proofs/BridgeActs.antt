@@ -32,6 +32,7 @@ module _ (n : ℕ) (few : transitTop n < 65535) where
   module _ (s : List ℕ) (v : Stretch → List ℕ) (is : Viewed n s v) (e : Event) (proper : Proper n e) (low : e .object < objectLimit) (before : Ranged n v)
       (used : ¬ (getD (v objects) (e .object) 0 ≡ 0)) (port : getD (v objects) (e .object) 0 ≤ n) (short : (A B : ℕ) → count (v (reports A B)) ≤ reportPlaces)
       (told : Tellable e (modelOf n v)) (kept : wellFormed n (happens n e s) ≡ true) where
+    -- the object's home is a port
     abbrev h : ℕ
     h = getD (v objects) (e .object) 0 - 1
 
@@ -41,12 +42,14 @@ module _ (n : ℕ) (few : transitTop n < 65535) where
     below : h < n
     below = omega arith
 
+    -- elsewhere than at home, the report lane has a place
     room : ¬ (e .at ≡ h) → count (v (reports (e .at) h)) < reportPlaces
     room d =
         let k : ¬ (length (modelOf n v .reports (e .at) h) ≡ reportPlaces) = told h homed d in
         let l : length (modelOf n v .reports (e .at) h) ≡ count (v (reports (e .at) h)) = list-length _ _ in
         omega (arith, short (e .at) h)
 
+    -- the event happens in the model, and no pointer lane changes
     pub happened : Happens e (modelOf n v) (model n (happens n e s)) × SameLanes (modelOf n v .pointers) (model n (happens n e s) .pointers)
     happened = go (ℕ-discrete (e .at) h)
       where
@@ -73,6 +76,7 @@ module _ (n : ℕ) (few : transitTop n < 65535) where
 
   -- ON A WELL FORMED STORE
   module _ (s : List ℕ) (formed : wellFormed n s ≡ true) where
+    -- its model and its stretches
     abbrev m : M
     m = model n s
 
@@ -83,9 +87,11 @@ module _ (n : ℕ) (few : transitTop n < 65535) where
     module _ (A B : ℕ) (ha : A < n) (hb : B < n) (f : List ℕ → List ℕ) (keeps : length (f (v (pointers A B))) ≡ 1 + pointerWidth * pointerPlaces)
         (e : Event) (proper : Proper n e) (used : ¬ (m .owner (e .object) ≡ 0)) (told : Tellable e m)
         (kept : wellFormed n (happens n e (edit n (pointers A B) f s)) ≡ true) where
+      -- the stretches with that lane replaced
       abbrev w : Stretch → List ℕ
       w = upd n (pointers A B) (f (v (pointers A B))) v
 
+      -- the event happens in the model, and the pointer lanes are those with that lane replaced
       pub moved : Happens e m (model n (happens n e (edit n (pointers A B) f s)))
           × SameLanes (modelOf n w .pointers) (model n (happens n e (edit n (pointers A B) f s)) .pointers)
       unfolding upd
@@ -105,19 +111,23 @@ module _ (n : ℕ) (few : transitTop n < 65535) where
         (owner-low n s formed (e .object)) (reports-short n s formed) told kept in
         (k .1, k .0)
 
+    -- COPY
     pub copy-effect : (A o B : ℕ) → Guard n COPY A o B m → wellFormed n (after n (act COPY A o B) s) ≡ true → Effect COPY A o B m (model n (after n (act COPY A o B) s))
     unfolding after
     copy-effect A o B g kept = still (event create o A) (record { port = g .port; names = refl }) (g .used .owned) (g .told) kept
 
+    -- DROP
     pub drop-effect : (A o B : ℕ) → Guard n DROP A o B m → wellFormed n (after n (act DROP A o B) s) ≡ true → Effect DROP A o B m (model n (after n (act DROP A o B) s))
     unfolding after
     drop-effect A o B g kept = still (event delete o A) (record { port = g .port; names = refl }) (g .used .owned) (g .told) kept
 
     -- the pointer lane from A to B with a pointer at its end, and with its oldest taken
     module _ (A B : ℕ) (ha : A < n) (hb : B < n) where
+      -- the lane's bytes
       lane-long : length (v (pointers A B)) ≡ 1 + pointerWidth * pointerPlaces
       lane-long = long-viewed n s v (seen n s formed) (pointers A B) (lane-inside n A B ha hb)
 
+      -- o goes to its end, where it has a place
       added-lane : (o : ℕ) → ¬ (length (m .pointers A B) ≡ pointerPlaces)
           → Added A B o (m .pointers) (modelOf n (upd n (pointers A B) (added pointerWidth (o ∷ []) (v (pointers A B))) v) .pointers)
       unfolding upd
@@ -142,6 +152,7 @@ module _ (n : ℕ) (few : transitTop n < 65535) where
           rest = λ X Y d. rw (off-lane B A Y X (λ k. d (k .1, k .0)));
         }
 
+    -- SEND
     pub send-effect : (A o B : ℕ) → Guard n SEND A o B m → wellFormed n (after n (act SEND A o B) s) ≡ true → Effect SEND A o B m (model n (after n (act SEND A o B) s))
     unfolding after
     send-effect A o B g kept =
@@ -168,6 +179,7 @@ module _ (n : ℕ) (few : transitTop n < 65535) where
             let z : length (m .pointers A B) ≡ count (v (pointers A B)) = list-length _ _ in
             omega arith
 
+    -- DELIVER
     pub deliver-effect : (A o B : ℕ) → Guard n DELIVER A o B m → wellFormed n (after n (act DELIVER A o B) s) ≡ true
         → Effect DELIVER A o B m (model n (after n (act DELIVER A o B) s))
     unfolding after

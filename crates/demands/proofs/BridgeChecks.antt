@@ -40,6 +40,7 @@ under : (x y z : ℕ) → z ≡ x → (leb y x ≡ false) ↔ (z < y)
 under x y z q = (λ e. rw q (leb-false y x e), λ d. lt-leb y x (rw q at d))
 
 module _ (n : ℕ) (s : List ℕ) (a : Act) where
+  -- the store's model
   abbrev m : M
   m = model n s
 
@@ -80,18 +81,21 @@ module _ (n : ℕ) (s : List ℕ) (a : Act) where
   unfolding rule
   holds-check h = differs (heldOf n (a .A) (a .o) s) 0 (m .held (a .A) (a .o)) (held-is n s (a .A) (a .o) h)
 
+  -- 8, of the port p that would gain one
   pub room-check : (p : ℕ) → p < n → eventIn n a s .names ≡ p → (rule n a s 8 ≡ false) ↔ (m .held p (a .o) + onWay n (m .pointers) p (a .o) < holdingLimit)
   unfolding rule
   room-check p h q = rw q (under (heldOf n p (a .o) s + Store.onWay n p (a .o) s) holdingLimit (m .held p (a .o) + onWay n (m .pointers) p (a .o)) (rw (held-is n s p (a .o) h, way-is n s p (a .o) h)))
 
   -- 9, of a pointer lane and of a report lane; 10
   module _ (ha : a .A < n) (hb : a .B < n) where
+    -- the lanes named are as long as they say
     pointers-long : length (m .pointers (a .A) (a .B)) ≡ count (read n (pointers (a .A) (a .B)) s)
     pointers-long = rw (view-in n (pointers (a .A) (a .B)) s (lane-inside n (a .A) (a .B) ha hb)) (list-length _ _)
 
     reports-long : length (m .reports (a .A) (a .B)) ≡ count (read n (reports (a .A) (a .B)) s)
     reports-long = rw (view-in n (reports (a .A) (a .B)) s (lane-inside n (a .A) (a .B) ha hb)) (list-length _ _)
 
+    -- 9, of a delivery and of a hearing
     pub pointer-check : is HEAR a ≡ false → (rule n a s 9 ≡ false) ↔ ¬ (length (m .pointers (a .A) (a .B)) ≡ 0)
     unfolding rule
     pointer-check q = rw q (differs _ 0 (length (m .pointers (a .A) (a .B))) pointers-long)
@@ -100,6 +104,7 @@ module _ (n : ℕ) (s : List ℕ) (a : Act) where
     unfolding rule
     report-check q = rw q (differs _ 0 (length (m .reports (a .A) (a .B))) reports-long)
 
+    -- 10
     pub place-check : (rule n a s 10 ≡ false) ↔ ¬ (length (m .pointers (a .A) (a .B)) ≡ pointerPlaces)
     unfolding rule
     place-check = differs _ pointerPlaces (length (m .pointers (a .A) (a .B))) pointers-long
@@ -111,12 +116,15 @@ module _ (n : ℕ) (s : List ℕ) (a : Act) where
 
   -- 11, of an event at a port about an object in use
   module _ (formed : wellFormed n s ≡ true) (e : Event) (is-e : eventIn n a s ≡ e) (port : e .at < n) (used : ¬ (m .owner (e .object) ≡ 0)) where
+    -- the object's byte
     abbrev b : ℕ
     b = objectByte n (e .object) s
 
+    -- the report lane to its home is as long as it says
     lane-long : (h : ℕ) → m .owner (e .object) ≡ h + 1 → length (m .reports (e .at) h) ≡ count (read n (reports (e .at) h) s)
     lane-long h q = rw (view-in n (reports (e .at) h) s (lane-inside n (e .at) h port (omega (arith, owner-low n s formed (e .object))))) (list-length _ _)
 
+    -- the acting port is the home, or that lane has a place
     pub told-check : (rule n a s 11 ≡ false) ↔ Tellable e m
     unfolding rule
     told-check = rw is-e (only, back (ℕ-discrete b (e .at + 1)))

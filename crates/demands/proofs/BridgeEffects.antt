@@ -30,6 +30,7 @@ use Rattle.demands.proofs.BridgeFormed.{seen, ranged, reports-short, re
 use Rattle.demands.proofs.BridgeActs.{happened, send-effect, copy-effect, drop-effect, deliver-effect}
 
 module _ (n : ℕ) (few : transitTop n < 65535) (s : List ℕ) (formed : wellFormed n s ≡ true) where
+  -- the store's model and its stretches
   abbrev m : M
   m = model n s
 
@@ -38,16 +39,19 @@ module _ (n : ℕ) (few : transitTop n < 65535) (s : List ℕ) (formed : wellFor
 
   -- the stretches once o's object byte has become b
   module _ (o b : ℕ) (low : o < objectLimit) where
+    -- the object bytes are replaced, and no other stretch
     abbrev ownedIn : Stretch → List ℕ
     ownedIn = upd n objects (set (v objects) o b) v
 
     objects-long : length (v objects) ≡ objectLimit
     objects-long = long-viewed n s v (seen n s formed) objects refl
 
+    -- so the bytes say
     owned-viewed : Viewed n (owned n o b s) ownedIn
     unfolding owned
     owned-viewed = edit-viewed n objects (λ r. set r o b) s v (seen n s formed) refl (length-set (v objects) o b ∙ objects-long)
 
+    -- so the model has another owner of o
     owned-model : Owned o b m (modelOf n ownedIn)
     unfolding upd
     owned-model = record {
@@ -59,6 +63,7 @@ module _ (n : ℕ) (few : transitTop n < 65535) (s : List ℕ) (formed : wellFor
       reports = λ A B. refl;
     }
 
+    -- the counts stay in range, and the report lanes as long as they were
     owned-ranged : Ranged n ownedIn
     unfolding upd
     owned-ranged =
@@ -81,9 +86,11 @@ module _ (n : ℕ) (few : transitTop n < 65535) (s : List ℕ) (formed : wellFor
 
   -- the oldest report e from A is heard at B
   module _ (A B : ℕ) (g : MayHear n A B m) (e : Event) (q : reported A (entry reportWidth 0 (v (reports A B))) ≡ e) where
+    -- the stretches once the report is taken from its lane
     abbrev takenIn : Stretch → List ℕ
     takenIn = upd n (reports A B) (taken reportWidth (v (reports A B))) v
 
+    -- the lane has an entry, and its bytes
     lane-long : length (v (reports A B)) ≡ 1 + reportWidth * reportPlaces
     lane-long = long-viewed n s v (seen n s formed) (reports A B) (lane-inside n A B (g .sender) (g .receiver))
 
@@ -96,6 +103,7 @@ module _ (n : ℕ) (few : transitTop n < 65535) (s : List ℕ) (formed : wellFor
     short : count (v (reports A B)) ≤ reportPlaces
     short = reports-lane n s formed A B (g .sender) (g .receiver) .few
 
+    -- so the bytes say, and the counts stay in range
     taken-viewed : Viewed n (edit n (reports A B) (taken reportWidth) s) takenIn
     taken-viewed = edit-viewed n (reports A B) (taken reportWidth) s v (seen n s formed) (lane-inside n A B (g .sender) (g .receiver))
         (length-taken reportWidth reportPlaces (v (reports A B)) lane-long short waits)
@@ -106,6 +114,7 @@ module _ (n : ℕ) (few : transitTop n < 65535) (s : List ℕ) (formed : wellFor
         let r = ranged n s formed v (seen n s formed) in
         record { held = λ p o. r .held p o; heard = λ p o. r .heard p o; transit = λ p o. r .transit p o }
 
+    -- then its event is heard
     heard-all : wellFormed n (hears n e (edit n (reports A B) (taken reportWidth) s)) ≡ true → Heard A B e m (model n (hears n e (edit n (reports A B) (taken reportWidth) s)))
     unfolding upd
     heard-all kept =
@@ -125,17 +134,20 @@ module _ (n : ℕ) (few : transitTop n < 65535) (s : List ℕ) (formed : wellFor
           books = record { heard = k .heard; transit = k .transit };
         })
 
+  -- MAKE
   pub make-effect : (A o B : ℕ) → Guard n MAKE A o B m → wellFormed n (after n (act MAKE A o B) s) ≡ true → Effect MAKE A o B m (model n (after n (act MAKE A o B) s))
   unfolding after
   make-effect A o B g kept =
       subst (λ (x : ℕ). Made A x m (model n (happens n (event create (lowestFree n s) A) (owned n (lowestFree n s) (A + 1) s)))) (sym (lowest-is n s))
       (made A (lowestFree n s) (g .port) (rw (lowest-is n s) at (lowest-free n m (g .free) .0)) kept)
 
+  -- HEAR
   pub hear-effect : (A o B : ℕ) → Guard n HEAR A o B m → wellFormed n (after n (act HEAR A o B) s) ≡ true → Effect HEAR A o B m (model n (after n (act HEAR A o B) s))
   unfolding after
   hear-effect A o B g kept =
       (oldestReport n A B s, heard-all A B g (oldestReport n A B s) (rw (view-in n (reports A B) s (lane-inside n A B (g .sender) (g .receiver)))) kept)
 
+  -- RETIRE
   pub retire-effect : (A o B : ℕ) → Guard n RETIRE A o B m → Effect RETIRE A o B m (model n (after n (act RETIRE A o B) s))
   unfolding after
   retire-effect A o B g =

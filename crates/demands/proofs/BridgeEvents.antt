@@ -34,10 +34,12 @@ module _ (n : ℕ) where
   abbrev pub heldIn : Event → (Stretch → List ℕ) → Stretch → List ℕ
   heldIn e v = upd n (held (e .at)) (holdingEffect (e .kind) (e .object) (v (held (e .at)))) v
 
+  -- its report at the end of the lane to its home h
   abbrev pub toldIn : Event → ℕ → (Stretch → List ℕ) → Stretch → List ℕ
   toldIn e h v = upd n (reports (e .at) h) (added reportWidth (report e) (v (reports (e .at) h))) v
 
   module _ (s : List ℕ) (v : Stretch → List ℕ) (seen : Viewed n s v) (e : Event) (proper : Proper n e) where
+    -- the port that it names
     abbrev p : ℕ
     p = e .names
 
@@ -77,6 +79,7 @@ module _ (n : ℕ) where
         rw (read-viewed n objects s v seen refl, q, ne-eqb (h + 1) (e .at + 1) (λ r. d (omega arith)), z) (told-viewed s v seen e proper h k)
 
   module _ (s : List ℕ) (v : Stretch → List ℕ) (seen : Viewed n s v) (e : Event) (proper : Proper n e) where
+    -- an event happens, at the home and elsewhere
     pub happens-home : getD (v objects) (e .object) 0 ≡ e .at + 1 → Viewed n (happens n e s) (heardIn e (heldIn e v))
     unfolding happens upd
     happens-home q = told-home _ (heldIn e v) (held-viewed s v seen e proper) e proper q

@@ -54,6 +54,7 @@ all-listed P (suc k) f w i h = go (ℕ-discrete i k) (all-last P (listTo k f) (f
     go (no d) v ih = ih (v .0) (omega arith)
 
 module _ (n : ℕ) (few : transitTop n < 65535) (s : List ℕ) (formed : wellFormed n s ≡ true) (k : Kept n (model n s)) where
+  -- the store's model
   abbrev m : M
   m = model n s
 
@@ -62,10 +63,12 @@ module _ (n : ℕ) (few : transitTop n < 65535) (s : List ℕ) (formed : wellFor
   at-home true t f = f refl
   at-home false t f = refl
 
+  -- SEND
   sends-fit : (A o B : ℕ) → Guard n SEND A o B m → happensFits n (sending o A B) s ≡ true
   sends-fit A o B g =
       at-home (eqb (objectByte n o s) (A + 1)) _ (λ _. ap (λ (x : ℕ). ltb x (transitTop n)) (sym (transit-is n s B o (g .receiver) (g .used .numbered))) ∙ lt-ltb (m .transit B o) (transitTop n) (send-fits n m k A o B g))
 
+  -- DELIVER
   delivers-fit : (A o B : ℕ) → Guard n DELIVER A o B m → happensFits n (event receive (oldestPointer n A B s) B) s ≡ true
   delivers-fit A o B g =
       let x : ℕ = oldestPointer n A B s in
@@ -75,6 +78,7 @@ module _ (n : ℕ) (few : transitTop n < 65535) (s : List ℕ) (formed : wellFor
       (at-home (eqb (objectByte n x s) (B + 1)) _ (λ _. ap (λ (y : ℕ). ltb 0 y) (sym (transit-is n s B x (g .receiver) (owned-low n s formed x used)))
       ∙ lt-ltb 0 (m .transit B x) (deliver-transit n m k A B x _ g front (m .owner x - 1) (omega arith))))
 
+  -- HEAR
   hears-fit : (A o B : ℕ) → Guard n HEAR A o B m → hearsFits n (oldestReport n A B s) s ≡ true
   hears-fit A o B g =
       let e : Event = oldestReport n A B s in
@@ -85,6 +89,7 @@ module _ (n : ℕ) (few : transitTop n < 65535) (s : List ℕ) (formed : wellFor
       both-true _ _ (ap (λ (y : ℕ). holdingFits (e .kind) y) (sym (heard-is n s (e .names) (e .object) port)) ∙ hear-holding-fits n m k A B e _ front)
       (ap (λ (y : ℕ). transitFits n (e .kind) y) (sym (transit-is n s (e .names) (e .object) port low)) ∙ hear-transit-fits n m k A B e _ front)
 
+  -- RETIRE
   retires-fit : (A o B : ℕ) → Guard n RETIRE A o B m → retireFits n o s ≡ true
   retires-fit A o B g =
       both-true (noneHolds n o s && noPointer n o s) (noReport n o s)

@@ -23,6 +23,7 @@ use Rattle.demands.proofs.BridgeReports.{reported-home, reported-low, r
 use Rattle.demands.proofs.BridgeEvents.{Ranged}
 
 module _ (n : ℕ) (s : List ℕ) (formed : wellFormed n s ≡ true) where
+  -- what it says, and that its stretches are its own
   abbrev form : Formed n s
   form = formed-means n s formed
 
@@ -58,9 +59,11 @@ module _ (n : ℕ) (s : List ℕ) (formed : wellFormed n s ≡ true) where
 
   -- a free object has no counts, at any port
   module _ (p o : ℕ) (free : model n s .owner o ≡ 0) where
+    -- its byte is 0
     byte-free : objectByte n o s ≡ 0
     byte-free = sym (owner-is n s o) ∙ free
 
+    -- its true holding, its heard holding and its transit
     pub held-free : model n s .held p o ≡ 0
     held-free = go (decLt p n) (decLt o objectLimit)
       where
@@ -100,6 +103,7 @@ module _ (n : ℕ) (s : List ℕ) (formed : wellFormed n s ≡ true) where
   pub reports-out : (A B : ℕ) → ¬ ((A < n) × (B < n)) → view n s (reports A B) ≡ []
   reports-out A B d = view-out n (reports A B) s (no-lane A B d)
 
+  -- so no report lane is longer than its places
   pub reports-short : (A B : ℕ) → count (view n s (reports A B)) ≤ reportPlaces
   reports-short A B = go (decLt A n) (decLt B n)
     where
@@ -109,6 +113,7 @@ module _ (n : ℕ) (s : List ℕ) (formed : wellFormed n s ≡ true) where
       go (no h) k = rw (reports-out A B (λ t. h (t .0))) (omega arith)
 
   module _ (A B : ℕ) (ha : A < n) (hb : B < n) where
+    -- the form of the lanes from A to B
     pub pointers-lane : LaneForm pointerWidth pointerPlaces (eqb A B) (pointerRight (view n s objects)) (view n s (pointers A B))
     pointers-lane = rw (view-in n (pointers A B) s (lane-inside n A B ha hb), view-in n objects s refl) (form .pointerLanes A B ha hb)
 
@@ -121,12 +126,15 @@ module _ (n : ℕ) (s : List ℕ) (formed : wellFormed n s ≡ true) where
 
     -- the oldest report is of an object of B's, and of an event that can be
     module _ (k : 0 < count (view n s (reports A B))) where
+      -- its event
       abbrev oldest : Event
       oldest = reported A (entry reportWidth 0 (view n s (reports A B)))
 
+      -- its bytes are right
       right : reportRight n (view n s objects) A B (entry reportWidth 0 (view n s (reports A B))) ≡ true
       right = reports-lane .all 0 k
 
+      -- the event can be, its object is an object, and B is its home
       pub oldest-proper : Proper n oldest
       oldest-proper = reported-proper n A B (view n s objects) (entry reportWidth 0 (view n s (reports A B))) right ha
 

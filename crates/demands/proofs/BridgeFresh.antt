@@ -18,6 +18,7 @@ use Rattle.demands.proofs.Bridge.{model, pointersIn, reportsIn, owner-i
 use Rattle.demands.proofs.BridgeFormed.{held-free, heard-free, transit-free, pointers-out, reports-out, oldest-used, oldest-home}
 
 module _ (n : ℕ) where
+  -- its object bytes are 0, so no object has an owner
   fresh-objects : read n objects (fresh n) ≡ replicate objectLimit 0
   unfolding read fresh
   fresh-objects = refl
@@ -35,6 +36,7 @@ module _ (n : ℕ) where
   empty zero f d = refl
   empty (suc k) f d = absurd (d (omega arith))
 
+  -- an entry would name an object in use
   no-pointers : (A B : ℕ) → model n (fresh n) .pointers A B ≡ []
   no-pointers A B = go (decLt A n) (decLt B n)
     where

@@ -29,6 +29,7 @@ use Rattle.demands.proofs.BridgeFormed.{seen, owner-low, pointers-lane,
 use Rattle.demands.proofs.BridgeChecks.{port-check, ports-check, object-check, used-check, apart-check, holds-check, room-check, pointer-check, report-check, place-check, told-check, free-check}
 
 module _ (n : ℕ) (s : List ℕ) (formed : wellFormed n s ≡ true) where
+  -- the store's model
   abbrev m : M
   m = model n s
 
@@ -38,6 +39,7 @@ module _ (n : ℕ) (s : List ℕ) (formed : wellFormed n s ≡ true) where
 
   -- a lane that has an entry: its oldest, and the others
   module _ (A B : ℕ) (ha : A < n) (hb : B < n) where
+    -- the two lanes from A to B, as they are seen and as they are read
     abbrev pointerLane : List ℕ
     pointerLane = view n s (pointers A B)
 
@@ -51,6 +53,7 @@ module _ (n : ℕ) (s : List ℕ) (formed : wellFormed n s ≡ true) where
     report-lane = view-in n (reports A B) s (lane-inside n A B ha hb)
 
     module _ (waits : ¬ (length (m .pointers A B) ≡ 0)) where
+      -- the pointer lane has a pointer: the oldest, then the others
       some-pointer : 0 < count pointerLane
       some-pointer = let q : length (m .pointers A B) ≡ count pointerLane = list-length _ _ in omega arith
 
@@ -60,6 +63,7 @@ module _ (n : ℕ) (s : List ℕ) (formed : wellFormed n s ≡ true) where
           (pointers-lane n s formed A B ha hb .few) some-pointer
           ∙ ap (λ (l : List ℕ). getD (entry pointerWidth 0 l) 0 0 ∷ pointersIn (taken pointerWidth pointerLane)) pointer-lane
 
+      -- so the oldest is the list's first, and an object in use
       pub oldest-is : (x : ℕ) (l : List ℕ) → m .pointers A B ≡ x ∷ l → oldestPointer n A B s ≡ x
       oldest-is x l h = ap (λ (k : List ℕ). getD k 0 0) (sym pointers-front ∙ h)
 
@@ -67,6 +71,7 @@ module _ (n : ℕ) (s : List ℕ) (formed : wellFormed n s ≡ true) where
       oldest-owned = subst (λ (l : List ℕ). ¬ (m .owner (getD (entry pointerWidth 0 l) 0 0) ≡ 0)) pointer-lane (oldest-used n s formed A B ha hb some-pointer)
 
     module _ (waits : ¬ (length (m .reports A B) ≡ 0)) where
+      -- the report lane has a report: the oldest, then the others
       some-report : 0 < count reportLane
       some-report = let q : length (m .reports A B) ≡ count reportLane = list-length _ _ in omega arith
 
@@ -78,12 +83,15 @@ module _ (n : ℕ) (s : List ℕ) (formed : wellFormed n s ≡ true) where
 
   -- 13: no port stands against retiring
   module _ (A o B : ℕ) (used : Used n o m) (silent : rule n (act RETIRE A o B) s 13 ≡ false) where
+    -- the object's home
     abbrev h : ℕ
     h = home n o s
 
+    -- the test that a port stands against
     abbrev stands : ℕ → Bool
     stands = against n h (λ q. heardOf n q o s) (λ q. transitOf n q o s) (heldOf n h o s)
 
+    -- the first that passes it is none, so none passes it
     beyond : n ≤ first n stands
     unfolding rule standing lowestAgainst
     beyond = ltb-false (standing n o s) n silent
@@ -91,6 +99,7 @@ module _ (n : ℕ) (s : List ℕ) (formed : wellFormed n s ≡ true) where
     none : (p : ℕ) → p < n → stands p ≡ false
     none p l = first-before stands n p l (omega (arith, beyond))
 
+    -- its two parts: a holding, a transit; neither passes
     abbrev heldTest : ℕ → Bool
     heldTest p = cond (eqb p h) (ltb 0 (heldOf n h o s)) (ltb 0 (heardOf n p o s))
 
@@ -101,6 +110,7 @@ module _ (n : ℕ) (s : List ℕ) (formed : wellFormed n s ≡ true) where
     unfolding against
     both p l = (left-false (heldTest p) (movedTest p) (none p l), right-false (heldTest p) (movedTest p) (none p l))
 
+    -- so the object may be retired
     retirable : MayRetire n o m
     retirable = record {
       used = used;

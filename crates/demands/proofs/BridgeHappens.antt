@@ -27,6 +27,7 @@ use Rattle.demands.proofs.BridgeEvents.{Ranged, heardIn, heldIn, toldIn
 
 module _ (n : ℕ) (few : transitTop n < 65535) (s : List ℕ) (v : Stretch → List ℕ) (seen : Viewed n s v) (e : Event) (proper : Proper n e)
     (low : e .object < objectLimit) (before : Ranged n v) where
+  -- the port that it names, and its own
   abbrev p : ℕ
   p = e .names
 
@@ -35,6 +36,7 @@ module _ (n : ℕ) (few : transitTop n < 65535) (s : List ℕ) (v : Stretch → 
 
   -- AN EVENT IS HEARD
   module _ (after : Ranged n (heardIn n e v)) where
+    -- the heard holdings, and the transits
     hears-heard : (q x : ℕ) → modelOf n (heardIn n e v) .heard q x + loss x q e ≡ modelOf n v .heard q x + gain x q e
     unfolding upd
     hears-heard q x = go (ℕ-discrete p q)
@@ -75,6 +77,7 @@ module _ (n : ℕ) (few : transitTop n < 65535) (s : List ℕ) (v : Stretch → 
         go (yes r) = rw (← r, eq-eqb p p refl, lt-ltb p n port) (here (decLt x objectLimit))
         go (no d) = rw (ne-eqb p q d, one-names receive x q e d, one-names send x q e d)
 
+    -- so it is heard in the model
     pub hears-model : Hears e (modelOf n v) (modelOf n (heardIn n e v))
     hears-model = record { heard = hears-heard; transit = hears-transit }
 
@@ -95,6 +98,7 @@ module _ (n : ℕ) (few : transitTop n < 65535) (s : List ℕ) (v : Stretch → 
 
   -- it goes to the end of the report lane to the home h
   module _ (h : ℕ) (port : h < n) (room : count (v (reports a h)) < reportPlaces) where
+    -- it stands there, and no other report lane changes
     pub told-put : modelOf n (toldIn n e h v) .reports a h ≡ modelOf n v .reports a h ++ (e ∷ [])
     unfolding upd
     told-put =
@@ -114,16 +118,19 @@ module _ (n : ℕ) (few : transitTop n < 65535) (s : List ℕ) (v : Stretch → 
   happensIn (yes q) = heardIn n e (heldIn n e v)
   happensIn (no d) = toldIn n e h (heldIn n e v)
 
+  -- so the bytes say
   pub happens-viewed : (d : Dec (e .at ≡ h)) → Viewed n (happens n e s) (happensIn d)
   unfolding happensIn
   happens-viewed (yes q) = happens-home n s v seen e proper (homed ∙ ap (λ (x : ℕ). x + 1) (sym q))
   happens-viewed (no d) = happens-away n s v seen e proper h port homed d
 
+  -- no pointer lane changes
   pub happens-pointers : (d : Dec (e .at ≡ h)) → SameLanes (modelOf n v .pointers) (modelOf n (happensIn d) .pointers)
   unfolding happensIn upd
   happens-pointers (yes q) A B = refl
   happens-pointers (no d) A B = refl
 
+  -- the event happens in the model
   pub happens-model : (d : Dec (e .at ≡ h)) → Ranged n (happensIn d) → Happens e (modelOf n v) (modelOf n (happensIn d))
   unfolding happensIn upd
   happens-model (yes q) after =

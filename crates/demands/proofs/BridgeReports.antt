@@ -14,6 +14,7 @@ use Rattle.books.proofs.Booleans.{left-true, right-true}
 use Rattle.store.specs.Store.{report, reported, reportRight}
 use Rattle.demands.proofs.Events.{Names, Proper}
 
+-- events with the same parts are one
 event-ext : (e f : Event) → e .kind ≡ f .kind → e .object ≡ f .object → e .at ≡ f .at → e .names ≡ f .names → e ≡ f
 event-ext e f p q r s = λ i. record { kind = p i; object = q i; at = r i; names = s i }
 
@@ -51,18 +52,22 @@ reported-report n e w h =
 
 -- a right report from port a to port b is of an object of b's, and its event can be
 module _ (n a b : ℕ) (obj e : List ℕ) (right : reportRight n obj a b e ≡ true) where
+  -- the two parts of the test
   abbrev homed : Bool
   homed = eqb (getD obj (getD e 0 0 % objectLimit) 0) (b + 1)
 
   abbrev port : Bool
   port = cond (eqb (getD e 0 0 / objectLimit) (number send)) (ltb (getD e 1 0) n && not (eqb (getD e 1 0) a)) (eqb (getD e 1 0) 0)
 
+  -- its object's home is b
   pub reported-home : getD obj (reported a e .object) 0 ≡ b + 1
   reported-home = eqb-true _ (b + 1) (left-true homed port right)
 
+  -- its object is an object
   pub reported-low : reported a e .object < objectLimit
   reported-low = omega arith
 
+  -- its event can be
   pub reported-proper : a < n → Proper n (reported a e)
   reported-proper h = record { port = h; names = named (getD e 0 0 / objectLimit) (right-true homed port right) }
     where

@@ -25,6 +25,7 @@ one-here k e = rw (eq-eqb (e .object) (e .object) refl, eq-eqb (e .names) (e .na
     go false = refl
 
 module _ (e : Event) (r : List ℕ) where
+  -- its kind and its object
   abbrev k : Kind
   k = e .kind
 
@@ -33,6 +34,7 @@ module _ (e : Event) (r : List ℕ) where
 
   -- the row of holdings of the port that the event names
   module _ (h : o < length r) (low : getD r o 0 ≤ holdingLimit) (kept : getD (holdingEffect k o r) o 0 ≤ holdingLimit) where
+    -- the object's own count, by kind
     moved : (j : Kind) → getD r o 0 ≤ holdingLimit → getD (holdingEffect j o r) o 0 ≤ holdingLimit
         → getD (holdingEffect j o r) o 0 + cond (eqb (number j) (number delete)) 1 0
         ≡ getD r o 0 + (cond (eqb (number j) (number receive)) 1 0 + cond (eqb (number j) (number create)) 1 0)
@@ -41,6 +43,7 @@ module _ (e : Event) (r : List ℕ) where
     moved create l q = omega (arith, holding-up o r h)
     moved delete l q = omega (arith, holding-down o r h)
 
+    -- every object's count
     pub holding-moves : (x : ℕ) → getD (holdingEffect k o r) x 0 + loss x (e .names) e ≡ getD r x 0 + gain x (e .names) e
     holding-moves x = go (ℕ-discrete o x)
       where
@@ -64,6 +67,7 @@ module _ (e : Event) (r : List ℕ) where
   -- the row of transits of that port
   module _ (n : ℕ) (few : transitTop n < 65535) (h : 2 * o + 1 < length r) (low : transitAt o r ≤ transitTop n)
       (kept : transitAt o (transitEffect k o r) ≤ transitTop n) where
+    -- the object's own count, by kind
     lowered : (j : Kind) → transitAt o (transitEffect j o r) ≤ transitTop n
         → transitAt o (transitEffect j o r) + cond (eqb (number j) (number receive)) 1 0 ≡ transitAt o r + cond (eqb (number j) (number send)) 1 0
     lowered send q = rw (transit-up n few o r h low) (omega arith)
@@ -73,6 +77,7 @@ module _ (e : Event) (r : List ℕ) where
     lowered create q = unfold transitEffect in refl
     lowered delete q = unfold transitEffect in refl
 
+    -- every object's count
     pub transit-moves : (x : ℕ) → transitAt x (transitEffect k o r) + one receive x (e .names) e ≡ transitAt x r + one send x (e .names) e
     transit-moves x = go (ℕ-discrete o x)
       where

@@ -25,6 +25,7 @@ pub record Met (n : ℕ) : Type 0 where
   pub bounded : Bounded n
   pub atRest : AtRest n
 
+-- ALL OF THEM ARE MET
 pub met : (n : ℕ) → transitTop n < 65535 → Met n
 met n few = record {
   neverBroken = never-broken n few;

@@ -35,6 +35,7 @@ used-owner n o s u =
     omega (arith, owner-is n s o)
 
 module _ (n : ℕ) (few : transitTop n < 65535) (acts : List Act) where
+  -- the store that the acts have made, and its model
   abbrev s : List ℕ
   s = run n acts
 
@@ -72,6 +73,7 @@ exactly-legal n few acts A o B = (
 )
 
 module _ (n : ℕ) (few : transitTop n < 65535) (acts : List Act) (A o B : ℕ) where
+  -- a delivery from A to B
   abbrev a : Act
   a = act DELIVER A o B
 
@@ -90,16 +92,19 @@ module _ (n : ℕ) (few : transitTop n < 65535) (acts : List Act) (A o B : ℕ) 
         λ w. c .1 (λ z. omega (arith, z, ap length (left ∙ w .2))),
       )
 
+  -- so the receipt is taken exactly when that and the limits allow it
   receipt : Taken n a (run n acts) ↔ (Undelivered × Within n (3 ∷ 6 ∷ 11 ∷ []) a (run n acts))
   unfolding positive
   receipt = exactly n few acts a (3 ∷ 6 ∷ []) (11 ∷ []) 9 Undelivered refl (unfold rule in refl) refl
       (λ f. (let p = ports-check n (run n acts) a refl refl .0 (f .0) in receipt-check (p .0) (p .1)))
 
+-- A RECEIPT
 pub receipt-exactly-legal : (n : ℕ) → transitTop n < 65535 → ReceiptExactlyLegal n
 receipt-exactly-legal n few acts A o B =
     let r = receipt n few acts A o B in
     (λ t. (let w = r .0 t in (w .0 .0, w .0 .1, w .0 .2, w .0 .3, w .1)), λ w. r .1 ((w .0, w .1, w .2, w .3), w .4))
 
+-- WHAT HAS HAPPENED IS LEGAL
 pub always-legal : (n : ℕ) → transitTop n < 65535 → AlwaysLegal n
 always-legal n few acts o u =
     reached-legal n (accepted n acts) (model n (run n acts)) (run-reached n few acts) o (home n o (run n acts)) (used-owner n o (run n acts) u)

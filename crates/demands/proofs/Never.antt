@@ -29,10 +29,12 @@ lacks : List ℕ → Bool
 lacks [] = true
 lacks (k ∷ ks) = not (eqb k 14) && lacks ks
 
+-- nor of a table's rows
 lack : List Row → Bool
 lack [] = true
 lack (r ∷ rs) = lacks (r .checks) && lack rs
 
+-- so a row of such a table lacks it, and a list that lacks it does not give it
 lacks-at : (rs : List Row) (k : ℕ) → lack rs ≡ true → lacks (getD rs k (row false false []) .checks) ≡ true
 unfolding lack lacks
 lacks-at [] k h = refl
@@ -48,11 +50,13 @@ lacks-first p (k ∷ ks) h e = go (p k) e (λ q. lacks-first p ks (right-true (n
     go true q f = eqb-false k 14 (not-true (eqb k 14) (left-true (not (eqb k 14)) (lacks ks) h)) q
     go false q f = f q
 
+-- so an act's own checks do not give it
 own-lacks : (n : ℕ) (a : Act) (s : List ℕ) → ¬ (own n a s ≡ 14)
 unfolding lacks lack
 own-lacks n a s = lacks-first (rule n a s) (2 ∷ rowOf a .checks) (lacks-at table (a .code) refl)
 
 module _ (n : ℕ) (few : transitTop n < 65535) (acts : List Act) (a : Act) where
+  -- the store that the acts have made
   abbrev s : List ℕ
   s = run n acts
 
@@ -63,12 +67,14 @@ module _ (n : ℕ) (few : transitTop n < 65535) (acts : List Act) (a : Act) wher
     λ f. answers n a s ∙ silent-taken n few s (run-formed n few acts) (run-kept n few acts) a f,
   )
 
+  -- 1 would say that the store is not well formed
   not-1 : ¬ (refusal n a s ≡ 1)
   not-1 e = true≢false (sym (given-exactly n a s 1 (λ q. omega arith) .0 (answers n a s ∙ e) .applies) ∙ first-rule)
     where
       first-rule : rule n a s 1 ≡ false
       first-rule = unfold rule in rw (run-formed n few acts)
 
+  -- 14 would say that of the store after the act
   not-14 : ¬ (refusal n a s ≡ 14)
   not-14 e = go (eqb (own n a s) 0) refl (wellFormed n (after n a s)) refl (sym (refusal-judged n a s (run-formed n few acts)) ∙ e)
     where

@@ -37,6 +37,7 @@ model-still : (n : ℕ) (s : List ℕ) → Settle.Still n (model n s) → Still 
 model-still n s w A B la lb = (sym (pointers-are n s A B la lb) ∙ w A B la lb .0, sym (reports-are n s A B la lb) ∙ w A B la lb .1)
 
 module _ (n : ℕ) (few : transitTop n < 65535) (acts : List Act) where
+  -- the store that the acts have made
   abbrev s : List ℕ
   s = run n acts
 
@@ -91,6 +92,7 @@ record Along (n : ℕ) (s : List ℕ) (k : ℕ) (t : List ℕ) : Type 0 where
   within : k + settling n (model n t) ≤ settling n (model n s)
 
 module _ (n : ℕ) (few : transitTop n < 65535) (s : List ℕ) (first : wellFormed n s ≡ true) (start : Kept n (model n s)) where
+  -- so it is along all of them
   along : (k : ℕ) (t : List ℕ) → Settles n s k t → Along n s k t
   along zero t none = record { formed = first; kept = start; within = omega arith }
   along (suc k) t (more {t = u} w a i e) = go (along k u w)
