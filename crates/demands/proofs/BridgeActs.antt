@@ -10,11 +10,11 @@ use native.Mathlib.Decide.{ℕ-discrete}
 use lib.ListN.{length, getD}
 use Rattle.paper.specs.Paper.{Event, receive, create, delete}
 use Rattle.books.specs.Books.{objectLimit, transitTop}
-use Rattle.lanes.specs.Lane.{pointerPlaces, reportPlaces, pointerWidth, count, entry, added, taken}
+use Rattle.lanes.specs.Lane.{pointerPlaces, reportPlaces, pointerWidth, reportWidth, count, entry, added, taken}
 use Rattle.lanes.proofs.Lane.{length-added, length-taken}
-use Rattle.lanes.proofs.Entries.{entries-added, entries-taken, list-length}
+use Rattle.lanes.proofs.Entries.{entries-some, entries-room, entries-added}
 use Rattle.store.specs.Layout.{Stretch, objects, pointers, reports, edit}
-use Rattle.store.specs.Store.{wellFormed}
+use Rattle.store.specs.Store.{reported, wellFormed}
 use Rattle.store.proofs.Frame.{lane-inside, view, upd, view-in, Viewed, edit-viewed}
 use Rattle.machine.specs.Acts.{act, event, sending, SEND, COPY, DROP, DELIVER}
 use Rattle.machine.specs.Effects.{happens, owned, oldestPointer, after}
@@ -22,10 +22,10 @@ use Rattle.demands.proofs.Events.{Proper}
 use Rattle.demands.proofs.Model.{M, SameLanes, Added, Taken, Happens, Effect}
 use Rattle.demands.proofs.Steps.{Tellable, MayDeliver, Guard}
 use Rattle.demands.proofs.History.{at-lane, off-lane}
-use Rattle.demands.proofs.Bridge.{model, modelOf, model-viewed, long-viewed}
+use Rattle.demands.proofs.Bridge.{model, modelOf, model-viewed}
 use Rattle.demands.proofs.BridgeEvents.{Ranged}
 use Rattle.demands.proofs.BridgeHappens.{happensIn, happens-viewed, happens-pointers, happens-model}
-use Rattle.demands.proofs.BridgeFormed.{seen, ranged, owned-low, owner-low, reports-short, pointers-lane, oldest-used}
+use Rattle.demands.proofs.BridgeFormed.{seen, ranged, owned-low, owner-low, reports-short, pointers-lane, pointers-long, pointers-front, oldest-used}
 
 module _ (n : ℕ) (few : transitTop n < 65535) where
   -- AN EVENT HAPPENS on a store whose stretches are v, and the store after it is well formed
@@ -44,10 +44,7 @@ module _ (n : ℕ) (few : transitTop n < 65535) where
 
     -- elsewhere than at home, the report lane has a place
     room : ¬ (e .at ≡ h) → count (v (reports (e .at) h)) < reportPlaces
-    room d =
-        let k : ¬ (length (modelOf n v .reports (e .at) h) ≡ reportPlaces) = told h homed d in
-        let l : length (modelOf n v .reports (e .at) h) ≡ count (v (reports (e .at) h)) = list-length _ _ in
-        omega (arith, short (e .at) h)
+    room d = entries-room reportWidth (reported (e .at)) reportPlaces (v (reports (e .at) h)) (short (e .at) h) (told h homed d)
 
     -- the event happens in the model, and no pointer lane changes
     pub happened : Happens e (modelOf n v) (model n (happens n e s)) × SameLanes (modelOf n v .pointers) (model n (happens n e s) .pointers)
@@ -123,32 +120,25 @@ module _ (n : ℕ) (few : transitTop n < 65535) where
 
     -- the pointer lane from A to B with a pointer at its end, and with its oldest taken
     module _ (A B : ℕ) (ha : A < n) (hb : B < n) where
-      -- the lane's bytes
-      lane-long : length (v (pointers A B)) ≡ 1 + pointerWidth * pointerPlaces
-      lane-long = long-viewed n s v (seen n s formed) (pointers A B) (lane-inside n A B ha hb)
-
       -- o goes to its end, where it has a place
       added-lane : (o : ℕ) → ¬ (length (m .pointers A B) ≡ pointerPlaces)
           → Added A B o (m .pointers) (modelOf n (upd n (pointers A B) (added pointerWidth (o ∷ []) (v (pointers A B))) v) .pointers)
       unfolding upd
       added-lane o full = record {
-        here = rw (at-lane B A) (entries-added pointerWidth (λ e. getD e 0 0) pointerPlaces (o ∷ []) (v (pointers A B)) lane-long refl place);
+        here = rw (at-lane B A) (entries-added pointerWidth (λ e. getD e 0 0) pointerPlaces (o ∷ []) (v (pointers A B)) (pointers-long n s formed A B ha hb) refl
+            (entries-room pointerWidth (λ e. getD e 0 0) pointerPlaces (v (pointers A B)) (pointers-lane n s formed A B ha hb .few) full));
         rest = λ X Y d. rw (off-lane B A Y X (λ k. d (k .1, k .0)));
       }
-        where
-          place : count (v (pointers A B)) < pointerPlaces
-          place =
-              let q : length (m .pointers A B) ≡ count (v (pointers A B)) = list-length _ _ in
-              omega (arith, pointers-lane n s formed A B ha hb .few)
 
       module _ (waits : 0 < count (v (pointers A B))) where
+        -- its oldest is taken
         taken-long : length (taken pointerWidth (v (pointers A B))) ≡ 1 + pointerWidth * pointerPlaces
-        taken-long = length-taken pointerWidth pointerPlaces (v (pointers A B)) lane-long (pointers-lane n s formed A B ha hb .few) waits
+        taken-long = length-taken pointerWidth pointerPlaces (v (pointers A B)) (pointers-long n s formed A B ha hb) (pointers-lane n s formed A B ha hb .few) waits
 
         taken-lane : Taken A B (getD (entry pointerWidth 0 (v (pointers A B))) 0 0) (m .pointers) (modelOf n (upd n (pointers A B) (taken pointerWidth (v (pointers A B))) v) .pointers)
         unfolding upd
         taken-lane = record {
-          here = rw (at-lane B A) (entries-taken pointerWidth (λ e. getD e 0 0) pointerPlaces (v (pointers A B)) lane-long (pointers-lane n s formed A B ha hb .few) waits);
+          here = rw (at-lane B A) (pointers-front n s formed A B ha hb waits);
           rest = λ X Y d. rw (off-lane B A Y X (λ k. d (k .1, k .0)));
         }
 
@@ -157,7 +147,7 @@ module _ (n : ℕ) (few : transitTop n < 65535) where
     unfolding after
     send-effect A o B g kept =
         let k = moved A B (g .sender) (g .receiver) (added pointerWidth (o ∷ []))
-        (length-added pointerWidth pointerPlaces (o ∷ []) (v (pointers A B)) (lane-long A B (g .sender) (g .receiver)) refl)
+        (length-added pointerWidth pointerPlaces (o ∷ []) (v (pointers A B)) (pointers-long n s formed A B (g .sender) (g .receiver)) refl)
         (sending o A B) (record { port = g .sender; names = (g .receiver, λ q. g .apart (sym q)) }) (g .used .owned) (g .told) kept in
         let t = added-lane A B (g .sender) (g .receiver) o (g .place) in
         (record { here = k .1 A B ∙ t .here; rest = λ X Y d. k .1 X Y ∙ t .rest X Y d }, k .0)
@@ -174,10 +164,7 @@ module _ (n : ℕ) (few : transitTop n < 65535) where
         (record { here = t .here ∙ ap (λ (l : List ℕ). x ∷ l) (sym (k .1 A B)); rest = λ X Y d. k .1 X Y ∙ t .rest X Y d }, k .0)
       where
         waits : 0 < count (v (pointers A B))
-        waits =
-            let d : ¬ (length (m .pointers A B) ≡ 0) = g .waits in
-            let z : length (m .pointers A B) ≡ count (v (pointers A B)) = list-length _ _ in
-            omega arith
+        waits = entries-some pointerWidth (λ e. getD e 0 0) (v (pointers A B)) (g .waits)
 
     -- DELIVER
     pub deliver-effect : (A o B : ℕ) → Guard n DELIVER A o B m → wellFormed n (after n (act DELIVER A o B) s) ≡ true

@@ -3,7 +3,7 @@
 use mathlib.Core.Path.{_≡_, refl, sym, subst, ap, _∙_}
 use mathlib.Core.Bool.{true}
 use mathlib.Core.List.{List, _∷_}
-use Prim.Native.Nat.{ℕ, _+_, _*_, _≤_, _<_}
+use Prim.Native.Nat.{ℕ, _+_, _≤_, _<_}
 use native.Mathlib.Omega.{arith}
 use lib.ListN.{length, getD, set, length-set}
 use lib.Seq.{getD-set-same, getD-set-other}
@@ -11,7 +11,7 @@ use Rattle.paper.specs.Paper.{Event, create}
 use Rattle.books.specs.Books.{objectLimit, transitTop}
 use Rattle.lanes.specs.Lane.{reportPlaces, reportWidth, count, entry, taken}
 use Rattle.lanes.proofs.Lane.{length-taken}
-use Rattle.lanes.proofs.Entries.{entries-taken, list-length}
+use Rattle.lanes.proofs.Entries.{entries-some}
 use Rattle.store.specs.Layout.{Stretch, objects, reports, edit}
 use Rattle.store.specs.Store.{reported, wellFormed}
 use Rattle.store.proofs.Frame.{lane-inside, view, upd, view-in, Viewed, edit-viewed}
@@ -26,7 +26,7 @@ use Rattle.demands.proofs.Bridge.{model, modelOf, model-viewed, long-vi
 use Rattle.demands.proofs.BridgeCounts.{lowest-is}
 use Rattle.demands.proofs.BridgeEvents.{Ranged, heardIn, hears-viewed}
 use Rattle.demands.proofs.BridgeHappens.{hears-model}
-use Rattle.demands.proofs.BridgeFormed.{seen, ranged, reports-short, reports-lane, oldest-proper, oldest-low}
+use Rattle.demands.proofs.BridgeFormed.{seen, ranged, reports-short, reports-lane, reports-long, reports-front, oldest-proper, oldest-low}
 use Rattle.demands.proofs.BridgeActs.{happened, send-effect, copy-effect, drop-effect, deliver-effect}
 
 module _ (n : ℕ) (few : transitTop n < 65535) (s : List ℕ) (formed : wellFormed n s ≡ true) where
@@ -90,23 +90,14 @@ module _ (n : ℕ) (few : transitTop n < 65535) (s : List ℕ) (formed : wellFor
     abbrev takenIn : Stretch → List ℕ
     takenIn = upd n (reports A B) (taken reportWidth (v (reports A B))) v
 
-    -- the lane has an entry, and its bytes
-    lane-long : length (v (reports A B)) ≡ 1 + reportWidth * reportPlaces
-    lane-long = long-viewed n s v (seen n s formed) (reports A B) (lane-inside n A B (g .sender) (g .receiver))
-
+    -- the lane has an entry
     waits : 0 < count (v (reports A B))
-    waits =
-        let d : ¬ (length (m .reports A B) ≡ 0) = g .waits in
-        let z : length (m .reports A B) ≡ count (v (reports A B)) = list-length _ _ in
-        omega arith
-
-    short : count (v (reports A B)) ≤ reportPlaces
-    short = reports-lane n s formed A B (g .sender) (g .receiver) .few
+    waits = entries-some reportWidth (reported A) (v (reports A B)) (g .waits)
 
     -- so the bytes say, and the counts stay in range
     taken-viewed : Viewed n (edit n (reports A B) (taken reportWidth) s) takenIn
     taken-viewed = edit-viewed n (reports A B) (taken reportWidth) s v (seen n s formed) (lane-inside n A B (g .sender) (g .receiver))
-        (length-taken reportWidth reportPlaces (v (reports A B)) lane-long short waits)
+        (length-taken reportWidth reportPlaces (v (reports A B)) (reports-long n s formed A B (g .sender) (g .receiver)) (reports-lane n s formed A B (g .sender) (g .receiver) .few) waits)
 
     taken-ranged : Ranged n takenIn
     unfolding upd
@@ -128,7 +119,7 @@ module _ (n : ℕ) (few : transitTop n < 65535) (s : List ℕ) (formed : wellFor
           held = λ p o. refl;
           pointers = λ X Y. refl;
           taken = record {
-            here = rw (at-lane B A) (entries-taken reportWidth (reported A) reportPlaces (v (reports A B)) lane-long short waits ∙ ap (λ (f : Event). f ∷ reportsIn A (taken reportWidth (v (reports A B)))) q);
+            here = rw (at-lane B A) (reports-front n s formed A B (g .sender) (g .receiver) waits ∙ ap (λ (f : Event). f ∷ reportsIn A (taken reportWidth (v (reports A B)))) q);
             rest = λ X Y d. rw (off-lane B A Y X (λ k. d (k .1, k .0)));
           };
           books = record { heard = k .heard; transit = k .transit };

@@ -35,7 +35,7 @@ use Rattle.demands.proofs.Kept.{Kept}
 use Rattle.demands.proofs.Fits.{send-fits, deliver-room, deliver-transit, hear-holding-fits, hear-transit-fits, retire-holds, retire-pointers, retire-reports}
 use Rattle.demands.proofs.Bridge.{model, owner-is, held-is, heard-is, transit-is, pointers-are, reports-are}
 use Rattle.demands.proofs.BridgeFormed.{owned-low, owner-low}
-use Rattle.demands.proofs.BridgeGuards.{Silent, guard, pointers-front, reports-front, oldest-owned}
+use Rattle.demands.proofs.BridgeGuards.{Silent, guard, pointers-first, reports-first, oldest-owned}
 use Rattle.demands.proofs.Run.{named}
 
 -- what holds of every member of a list holds of each number's
@@ -72,7 +72,7 @@ module _ (n : ℕ) (few : transitTop n < 65535) (s : List ℕ) (formed : wellFor
   delivers-fit : (A o B : ℕ) → Guard n DELIVER A o B m → happensFits n (event receive (oldestPointer n A B s) B) s ≡ true
   delivers-fit A o B g =
       let x : ℕ = oldestPointer n A B s in
-      let front = pointers-front n s formed A B (g .sender) (g .receiver) (g .waits) in
+      let front = pointers-first n s formed A B (g .sender) (g .receiver) (g .waits) in
       let used = oldest-owned n s formed A B (g .sender) (g .receiver) (g .waits) in
       both-true _ _ (ap (λ (y : ℕ). ltb y holdingLimit) (sym (held-is n s B x (g .receiver))) ∙ lt-ltb (m .held B x) holdingLimit (deliver-room n m k A B x _ g front))
       (at-home (eqb (objectByte n x s) (B + 1)) _ (λ _. ap (λ (y : ℕ). ltb 0 y) (sym (transit-is n s B x (g .receiver) (owned-low n s formed x used)))
@@ -82,7 +82,7 @@ module _ (n : ℕ) (few : transitTop n < 65535) (s : List ℕ) (formed : wellFor
   hears-fit : (A o B : ℕ) → Guard n HEAR A o B m → hearsFits n (oldestReport n A B s) s ≡ true
   hears-fit A o B g =
       let e : Event = oldestReport n A B s in
-      let front = reports-front n s formed A B (g .sender) (g .receiver) (g .waits) in
+      let front = reports-first n s formed A B (g .sender) (g .receiver) (g .waits) in
       let port = names-port n e (oldest-proper n A B m (k .core .home B) front) in
       let mine = oldest-named n A B m (k .core .home B) front in
       let low = owned-low n s formed (e .object) (λ z. omega (arith, z, mine)) in

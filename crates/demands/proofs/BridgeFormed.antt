@@ -2,8 +2,8 @@
 -- Assumes nothing.
 use mathlib.Core.Path.{_≡_, refl, sym, _∙_}
 use mathlib.Core.Bool.{true, false, _&&_, and-false}
-use mathlib.Core.List.{List, []}
-use Prim.Native.Nat.{ℕ, _+_, _≤_, _<_}
+use mathlib.Core.List.{List, [], _∷_}
+use Prim.Native.Nat.{ℕ, _+_, _*_, _≤_, _<_}
 use native.Mathlib.Omega.{arith}
 use native.Mathlib.Decide.{decLt}
 use lib.Dec.{eqb, ltb}
@@ -11,14 +11,15 @@ use lib.ListN.{length, getD, List·getD-eq-default}
 use borrow.Author.Tests.{lt-ltb, le-ltb, eqb-false, not-true}
 use Rattle.paper.specs.Paper.{Event}
 use Rattle.books.specs.Books.{objectLimit, transitZero}
-use Rattle.lanes.specs.Lane.{pointerPlaces, reportPlaces, pointerWidth, reportWidth, count, entry}
+use Rattle.lanes.specs.Lane.{pointerPlaces, reportPlaces, pointerWidth, reportWidth, count, entry, taken}
 use Rattle.lanes.proofs.Lane.{LaneForm}
+use Rattle.lanes.proofs.Entries.{entries-taken}
 use Rattle.store.specs.Layout.{Stretch, objects, held, heard, transit, pointers, reports}
 use Rattle.store.specs.Store.{reported, objectByte, wellFormed, pointerRight, reportRight}
 use Rattle.store.proofs.Frame.{port-inside, lane-inside, view, view-in, Viewed, viewed, read-viewed}
 use Rattle.store.proofs.Formed.{Formed, formed-means}
 use Rattle.demands.proofs.Events.{Proper}
-use Rattle.demands.proofs.Bridge.{model, long-viewed, row-long, view-out, owner-is, held-is, heard-is, transit-is}
+use Rattle.demands.proofs.Bridge.{model, pointersIn, reportsIn, long-viewed, row-long, view-out, owner-is, held-is, heard-is, transit-is}
 use Rattle.demands.proofs.BridgeReports.{reported-home, reported-low, reported-proper}
 use Rattle.demands.proofs.BridgeEvents.{Ranged}
 
@@ -119,6 +120,22 @@ module _ (n : ℕ) (s : List ℕ) (formed : wellFormed n s ≡ true) where
 
     pub reports-lane : LaneForm reportWidth reportPlaces (eqb A B) (reportRight n (view n s objects) A B) (view n s (reports A B))
     reports-lane = rw (view-in n (reports A B) s (lane-inside n A B ha hb), view-in n objects s refl) (form .reportLanes A B ha hb)
+
+    -- their bytes
+    pub pointers-long : length (view n s (pointers A B)) ≡ 1 + pointerWidth * pointerPlaces
+    pointers-long = long-viewed n s (view n s) seen (pointers A B) (lane-inside n A B ha hb)
+
+    pub reports-long : length (view n s (reports A B)) ≡ 1 + reportWidth * reportPlaces
+    reports-long = long-viewed n s (view n s) seen (reports A B) (lane-inside n A B ha hb)
+
+    -- a lane that has an entry: the oldest, then the others
+    pub pointers-front : 0 < count (view n s (pointers A B))
+        → model n s .pointers A B ≡ getD (entry pointerWidth 0 (view n s (pointers A B))) 0 0 ∷ pointersIn (taken pointerWidth (view n s (pointers A B)))
+    pointers-front k = entries-taken pointerWidth (λ e. getD e 0 0) pointerPlaces (view n s (pointers A B)) pointers-long (pointers-lane .few) k
+
+    pub reports-front : 0 < count (view n s (reports A B))
+        → model n s .reports A B ≡ reported A (entry reportWidth 0 (view n s (reports A B))) ∷ reportsIn A (taken reportWidth (view n s (reports A B)))
+    reports-front k = entries-taken reportWidth (reported A) reportPlaces (view n s (reports A B)) reports-long (reports-lane .few) k
 
     -- the oldest pointer is to an object in use
     pub oldest-used : 0 < count (view n s (pointers A B)) → ¬ (model n s .owner (getD (entry pointerWidth 0 (view n s (pointers A B))) 0 0) ≡ 0)

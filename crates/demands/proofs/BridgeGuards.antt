@@ -13,8 +13,8 @@ use Rattle.books.specs.Numbers.{first}
 use Rattle.books.specs.Books.{transitZero, against, lowestAgainst}
 use Rattle.books.proofs.Booleans.{left-false, right-false}
 use Rattle.books.proofs.Numbers.{first-before}
-use Rattle.lanes.specs.Lane.{pointerPlaces, reportPlaces, pointerWidth, reportWidth, count, entry, taken}
-use Rattle.lanes.proofs.Entries.{entries-taken, list-length}
+use Rattle.lanes.specs.Lane.{reportPlaces, pointerWidth, reportWidth, count, entry, taken}
+use Rattle.lanes.proofs.Entries.{entries-some}
 use Rattle.store.specs.Layout.{pointers, reports, read}
 use Rattle.store.specs.Store.{reported, wellFormed, home, heldOf, heardOf, transitOf}
 use Rattle.store.proofs.Frame.{lane-inside, view, view-in}
@@ -24,8 +24,8 @@ use Rattle.machine.specs.Machine.{standing, rule}
 use Rattle.machine.proofs.Firsts.{NoneOf}
 use Rattle.demands.proofs.Model.{M}
 use Rattle.demands.proofs.Steps.{Used, MayRetire, Guard}
-use Rattle.demands.proofs.Bridge.{model, pointersIn, reportsIn, long-viewed, owner-is, held-is, heard-is, transit-is}
-use Rattle.demands.proofs.BridgeFormed.{seen, owner-low, pointers-lane, reports-lane, oldest-used}
+use Rattle.demands.proofs.Bridge.{model, pointersIn, reportsIn, owner-is, held-is, heard-is, transit-is}
+use Rattle.demands.proofs.BridgeFormed.{owner-low, pointers-front, reports-front, oldest-used}
 use Rattle.demands.proofs.BridgeChecks.{port-check, ports-check, object-check, used-check, apart-check, holds-check, room-check, pointer-check, report-check, place-check, told-check, free-check}
 
 module _ (n : ℕ) (s : List ℕ) (formed : wellFormed n s ≡ true) where
@@ -55,17 +55,16 @@ module _ (n : ℕ) (s : List ℕ) (formed : wellFormed n s ≡ true) where
     module _ (waits : ¬ (length (m .pointers A B) ≡ 0)) where
       -- the pointer lane has a pointer: the oldest, then the others
       some-pointer : 0 < count pointerLane
-      some-pointer = let q : length (m .pointers A B) ≡ count pointerLane = list-length _ _ in omega arith
+      some-pointer = entries-some pointerWidth (λ e. getD e 0 0) pointerLane waits
 
-      pub pointers-front : m .pointers A B ≡ oldestPointer n A B s ∷ pointersIn (taken pointerWidth pointerLane)
-      pointers-front =
-          entries-taken pointerWidth (λ e. getD e 0 0) pointerPlaces pointerLane (long-viewed n s (view n s) (seen n s formed) (pointers A B) (lane-inside n A B ha hb))
-          (pointers-lane n s formed A B ha hb .few) some-pointer
+      pub pointers-first : m .pointers A B ≡ oldestPointer n A B s ∷ pointersIn (taken pointerWidth pointerLane)
+      pointers-first =
+          pointers-front n s formed A B ha hb some-pointer
           ∙ ap (λ (l : List ℕ). getD (entry pointerWidth 0 l) 0 0 ∷ pointersIn (taken pointerWidth pointerLane)) pointer-lane
 
       -- so the oldest is the list's first, and an object in use
       pub oldest-is : (x : ℕ) (l : List ℕ) → m .pointers A B ≡ x ∷ l → oldestPointer n A B s ≡ x
-      oldest-is x l h = ap (λ (k : List ℕ). getD k 0 0) (sym pointers-front ∙ h)
+      oldest-is x l h = ap (λ (k : List ℕ). getD k 0 0) (sym pointers-first ∙ h)
 
       pub oldest-owned : ¬ (m .owner (oldestPointer n A B s) ≡ 0)
       oldest-owned = subst (λ (l : List ℕ). ¬ (m .owner (getD (entry pointerWidth 0 l) 0 0) ≡ 0)) pointer-lane (oldest-used n s formed A B ha hb some-pointer)
@@ -73,12 +72,11 @@ module _ (n : ℕ) (s : List ℕ) (formed : wellFormed n s ≡ true) where
     module _ (waits : ¬ (length (m .reports A B) ≡ 0)) where
       -- the report lane has a report: the oldest, then the others
       some-report : 0 < count reportLane
-      some-report = let q : length (m .reports A B) ≡ count reportLane = list-length _ _ in omega arith
+      some-report = entries-some reportWidth (reported A) reportLane waits
 
-      pub reports-front : m .reports A B ≡ oldestReport n A B s ∷ reportsIn A (taken reportWidth reportLane)
-      reports-front =
-          entries-taken reportWidth (reported A) reportPlaces reportLane (long-viewed n s (view n s) (seen n s formed) (reports A B) (lane-inside n A B ha hb))
-          (reports-lane n s formed A B ha hb .few) some-report
+      pub reports-first : m .reports A B ≡ oldestReport n A B s ∷ reportsIn A (taken reportWidth reportLane)
+      reports-first =
+          reports-front n s formed A B ha hb some-report
           ∙ ap (λ (l : List ℕ). reported A (entry reportWidth 0 l) ∷ reportsIn A (taken reportWidth reportLane)) report-lane
 
   -- 13: no port stands against retiring

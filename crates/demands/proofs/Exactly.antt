@@ -24,7 +24,7 @@ use Rattle.demands.proofs.Legal.{reached-legal}
 use Rattle.demands.proofs.Reached.{holds-exactly, receipt-may}
 use Rattle.demands.proofs.Bridge.{model, owner-is, pointers-are, reports-are}
 use Rattle.demands.proofs.BridgeChecks.{port-check, ports-check, holds-check, pointer-check}
-use Rattle.demands.proofs.BridgeGuards.{pointers-front}
+use Rattle.demands.proofs.BridgeGuards.{pointers-first}
 use Rattle.demands.proofs.Run.{run-formed, run-reached}
 use Rattle.demands.proofs.Never.{taken-silent}
 
@@ -87,7 +87,7 @@ module _ (n : ℕ) (few : transitTop n < 65535) (acts : List Act) (A o B : ℕ) 
       let c = pointer-check n (run n acts) a ha hb refl in
       let r = run-reached n few acts in
       let left = pointers-left n (accepted n acts) (model n (run n acts)) r A B in (
-        λ e. (let q = sym left ∙ pointers-front n (run n acts) (run-formed n few acts) A B ha hb (c .0 e) in
+        λ e. (let q = sym left ∙ pointers-first n (run n acts) (run-formed n few acts) A B ha hb (c .0 e) in
             (_, _, q, receipt-may n (accepted n acts) (model n (run n acts)) r A B _ _ ha q)),
         λ w. c .1 (λ z. omega (arith, z, ap length (left ∙ w .2))),
       )

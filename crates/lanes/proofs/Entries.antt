@@ -33,7 +33,15 @@ module _ {X : Type 0} (w : ℕ) (f : List ℕ → X) where
   abbrev pub entries : List ℕ → List X
   entries l = listTo (count l) (λ i. f (entry w i l))
 
+  -- a lane whose list is not empty has an entry; one whose list is not as long as its places has a place
+  pub entries-some : (l : List ℕ) → ¬ (length (entries l) ≡ 0) → 0 < count l
+  entries-some l d = let q : length (entries l) ≡ count l = list-length _ _ in omega arith
+
   module _ (places : ℕ) where
+    pub entries-room : (l : List ℕ) → count l ≤ places → ¬ (length (entries l) ≡ places) → count l < places
+    entries-room l few d = let q : length (entries l) ≡ count l = list-length _ _ in omega arith
+
+    -- with an entry more at its end, and with the oldest taken
     pub entries-added : (e l : List ℕ) → length l ≡ laneBytes w places → length e ≡ w → count l < places → entries (added w e l) ≡ entries l ++ (f e ∷ [])
     unfolding listTo
     entries-added e l long wide room =
