@@ -1,9 +1,9 @@
 -- What an act's silent checks leave of it is the model's guard; of a delivery and of a hearing the guard is also enough.
 -- Assumes nothing.
 use mathlib.Core.Path.{_≡_, refl, sym, subst, ap, _∙_}
-use mathlib.Core.Bool.{Bool, true, false, cond, not}
+use mathlib.Core.Bool.{Bool, true≢false, _||_, true, false, cond, not}
 use mathlib.Core.List.{List, [], _∷_}
-use Prim.Native.Nat.{ℕ, _+_, _-_, _≤_, _<_}
+use Prim.Native.Nat.{ℕ, _-_, _≤_, _<_}
 use native.Mathlib.Omega.{arith}
 use lib.Dec.{ltb, eqb}
 use lib.ListN.{length, getD}
@@ -13,12 +13,12 @@ use Rattle.books.specs.Numbers.{first}
 use Rattle.books.specs.Books.{transitZero, against, lowestAgainst}
 use Rattle.books.proofs.Booleans.{left-false, right-false}
 use Rattle.books.proofs.Numbers.{first-before}
-use Rattle.lanes.specs.Lane.{reportPlaces, pointerWidth, reportWidth, count, entry, taken}
+use Rattle.lanes.specs.Lane.{pointerWidth, reportWidth, count, entry, taken}
 use Rattle.lanes.proofs.Entries.{entries-some}
 use Rattle.store.specs.Layout.{pointers, reports, read}
 use Rattle.store.specs.Store.{reported, wellFormed, home, heldOf, heardOf, transitOf}
 use Rattle.store.proofs.Frame.{lane-inside, view, view-in}
-use Rattle.machine.specs.Acts.{Name, act, rowOf, event, sending, MAKE, SEND, COPY, DROP, DELIVER, HEAR, ASK, RETIRE, SETTLE, HOLD}
+use Rattle.machine.specs.Acts.{Act, Name, act, rowOf, event, sending, MAKE, SEND, COPY, DROP, DELIVER, HEAR, ASK, RETIRE, SETTLE, HOLD}
 use Rattle.machine.specs.Effects.{oldestPointer, oldestReport}
 use Rattle.machine.specs.Machine.{standing, rule}
 use Rattle.machine.proofs.Firsts.{NoneOf}
@@ -27,6 +27,20 @@ use Rattle.demands.proofs.Steps.{Used, MayRetire, Guard}
 use Rattle.demands.proofs.Bridge.{model, pointersIn, reportsIn, owner-is, held-is, heard-is, transit-is}
 use Rattle.demands.proofs.BridgeFormed.{owner-low, pointers-front, reports-front, oldest-used}
 use Rattle.demands.proofs.BridgeChecks.{port-check, ports-check, object-check, used-check, apart-check, holds-check, room-check, pointer-check, report-check, place-check, told-check, free-check}
+
+-- j stands in the list; a number of a list of which none passes a test does not pass it
+unfoldable has : ℕ → List ℕ → Bool
+has j [] = false
+has j (k ∷ ks) = eqb j k || has j ks
+
+none-at : (p : ℕ → Bool) (ks : List ℕ) → NoneOf p ks → (j : ℕ) → has j ks ≡ true → p j ≡ false
+unfolding has
+none-at p [] f j h = absurd (true≢false (sym h))
+none-at p (k ∷ ks) f j h = go (eqb j k) refl h (λ t. none-at p ks (f .1) j t)
+  where
+    go : (b : Bool) → eqb j k ≡ b → (b || has j ks) ≡ true → (has j ks ≡ true → p j ≡ false) → p j ≡ false
+    go true q t g = ap p (eqb-true j k q) ∙ f .0
+    go false q t g = g t
 
 module _ (n : ℕ) (s : List ℕ) (formed : wellFormed n s ≡ true) where
   -- the store's model
@@ -129,74 +143,88 @@ module _ (n : ℕ) (s : List ℕ) (formed : wellFormed n s ≡ true) where
             let t : ltb 0 (heardOf n p o s) ≡ false = rw (ne-eqb p h d) at (both p l .0) in
             omega (arith, ltb-false 0 (heardOf n p o s) t)
 
+  -- not 4 and 5
+  in-use : (a : Act) → rule n a s 4 ≡ false → rule n a s 5 ≡ false → Used n (a .o) m
+  in-use a c d = record { numbered = object-check n s a .0 c; owned = used-check n s a .0 d }
+
   -- THE GUARD of an act whose own checks are silent
   pub guard : (k : Name) (A o B : ℕ) → Silent k A o B → Guard n k A o B m
-  guard MAKE A o B f = record { port = port-check n s (act MAKE A o B) refl refl .0 (f .1 .0); free = free-check n s (act MAKE A o B) .0 (f .1 .1 .0) }
+  unfolding has
+  guard MAKE A o B f =
+      let a = act MAKE A o B in
+      let c = none-at (rule n a s) (2 ∷ rowOf a .checks) f in
+      record { port = port-check n s a refl refl .0 (c 3 refl); free = free-check n s a .0 (c 12 refl) }
   guard SEND A o B f =
       let a = act SEND A o B in
-      let p = ports-check n s a refl refl .0 (f .1 .0) in
-      let u = used-check n s a .0 (f .1 .1 .1 .0) in
+      let c = none-at (rule n a s) (2 ∷ rowOf a .checks) f in
+      let p = ports-check n s a refl refl .0 (c 3 refl) in
+      let u = in-use a (c 4 refl) (c 5 refl) in
       record {
         sender = p .0;
         receiver = p .1;
-        used = record { numbered = object-check n s a .0 (f .1 .1 .0); owned = u };
-        apart = apart-check n s a .0 (f .1 .1 .1 .1 .0);
-        holds = holds-check n s a (p .0) .0 (f .1 .1 .1 .1 .1 .0);
-        room = room-check n s a B (p .1) refl .0 (f .1 .1 .1 .1 .1 .1 .0);
-        place = place-check n s a (p .0) (p .1) .0 (f .1 .1 .1 .1 .1 .1 .1 .0);
-        told = told-check n s a formed (sending o A B) refl (p .0) u .0 (f .1 .1 .1 .1 .1 .1 .1 .1 .0);
+        used = u;
+        apart = apart-check n s a .0 (c 6 refl);
+        holds = holds-check n s a (p .0) .0 (c 7 refl);
+        room = room-check n s a B (p .1) refl .0 (c 8 refl);
+        place = place-check n s a (p .0) (p .1) .0 (c 10 refl);
+        told = told-check n s a formed (sending o A B) refl (p .0) (u .owned) .0 (c 11 refl);
       }
   guard COPY A o B f =
       let a = act COPY A o B in
-      let p = port-check n s a refl refl .0 (f .1 .0) in
-      let u = used-check n s a .0 (f .1 .1 .1 .0) in
+      let c = none-at (rule n a s) (2 ∷ rowOf a .checks) f in
+      let p = port-check n s a refl refl .0 (c 3 refl) in
+      let u = in-use a (c 4 refl) (c 5 refl) in
       record {
         port = p;
-        used = record { numbered = object-check n s a .0 (f .1 .1 .0); owned = u };
-        holds = holds-check n s a p .0 (f .1 .1 .1 .1 .0);
-        room = room-check n s a A p refl .0 (f .1 .1 .1 .1 .1 .0);
-        told = told-check n s a formed (event create o A) refl p u .0 (f .1 .1 .1 .1 .1 .1 .0);
+        used = u;
+        holds = holds-check n s a p .0 (c 7 refl);
+        room = room-check n s a A p refl .0 (c 8 refl);
+        told = told-check n s a formed (event create o A) refl p (u .owned) .0 (c 11 refl);
       }
   guard DROP A o B f =
       let a = act DROP A o B in
-      let p = port-check n s a refl refl .0 (f .1 .0) in
-      let u = used-check n s a .0 (f .1 .1 .1 .0) in
-      record {
-        port = p;
-        used = record { numbered = object-check n s a .0 (f .1 .1 .0); owned = u };
-        holds = holds-check n s a p .0 (f .1 .1 .1 .1 .0);
-        told = told-check n s a formed (event delete o A) refl p u .0 (f .1 .1 .1 .1 .1 .0);
-      }
+      let c = none-at (rule n a s) (2 ∷ rowOf a .checks) f in
+      let p = port-check n s a refl refl .0 (c 3 refl) in
+      let u = in-use a (c 4 refl) (c 5 refl) in
+      record { port = p; used = u; holds = holds-check n s a p .0 (c 7 refl); told = told-check n s a formed (event delete o A) refl p (u .owned) .0 (c 11 refl) }
   guard DELIVER A o B f =
       let a = act DELIVER A o B in
-      let p = ports-check n s a refl refl .0 (f .1 .0) in
-      let w = pointer-check n s a (p .0) (p .1) refl .0 (f .1 .1 .1 .0) in
+      let c = none-at (rule n a s) (2 ∷ rowOf a .checks) f in
+      let p = ports-check n s a refl refl .0 (c 3 refl) in
+      let w = pointer-check n s a (p .0) (p .1) refl .0 (c 9 refl) in
       record {
         sender = p .0;
         receiver = p .1;
-        apart = apart-check n s a .0 (f .1 .1 .0);
+        apart = apart-check n s a .0 (c 6 refl);
         waits = w;
         told = λ x l h. rw (oldest-is A B (p .0) (p .1) w x l h) at
-            (told-check n s a formed (event receive (oldestPointer n A B s) B) refl (p .1) (oldest-owned A B (p .0) (p .1) w) .0 (f .1 .1 .1 .1 .0));
+            (told-check n s a formed (event receive (oldestPointer n A B s) B) refl (p .1) (oldest-owned A B (p .0) (p .1) w) .0 (c 11 refl));
       }
   guard HEAR A o B f =
       let a = act HEAR A o B in
-      let p = ports-check n s a refl refl .0 (f .1 .0) in
-      record { sender = p .0; receiver = p .1; apart = apart-check n s a .0 (f .1 .1 .0); waits = report-check n s a (p .0) (p .1) refl .0 (f .1 .1 .1 .0) }
-  guard ASK A o B f = record { numbered = object-check n s (act ASK A o B) .0 (f .1 .0); owned = used-check n s (act ASK A o B) .0 (f .1 .1 .0) }
+      let c = none-at (rule n a s) (2 ∷ rowOf a .checks) f in
+      let p = ports-check n s a refl refl .0 (c 3 refl) in
+      record { sender = p .0; receiver = p .1; apart = apart-check n s a .0 (c 6 refl); waits = report-check n s a (p .0) (p .1) refl .0 (c 9 refl) }
+  guard ASK A o B f =
+      let a = act ASK A o B in
+      let c = none-at (rule n a s) (2 ∷ rowOf a .checks) f in
+      in-use a (c 4 refl) (c 5 refl)
   guard RETIRE A o B f =
-      retirable A o B (record { numbered = object-check n s (act RETIRE A o B) .0 (f .1 .0); owned = used-check n s (act RETIRE A o B) .0 (f .1 .1 .0) }) (f .1 .1 .1 .0)
+      let a = act RETIRE A o B in
+      let c = none-at (rule n a s) (2 ∷ rowOf a .checks) f in
+      retirable A o B (in-use a (c 4 refl) (c 5 refl)) (c 13 refl)
   guard SETTLE A o B f = tt
-  guard HOLD A o B f = (
-    port-check n s (act HOLD A o B) refl refl .0 (f .1 .0),
-    record { numbered = object-check n s (act HOLD A o B) .0 (f .1 .1 .0); owned = used-check n s (act HOLD A o B) .0 (f .1 .1 .1 .0) },
-  )
+  guard HOLD A o B f =
+      let a = act HOLD A o B in
+      let c = none-at (rule n a s) (2 ∷ rowOf a .checks) f in
+      (port-check n s a refl refl .0 (c 3 refl), in-use a (c 4 refl) (c 5 refl))
 
   -- AND BACK: a delivery and a hearing that the model leaves
   pub deliver-silent : (A o B : ℕ) → Guard n DELIVER A o B m → Silent DELIVER A o B
   deliver-silent A o B g =
       let a = act DELIVER A o B in
-      let x : ℕ = oldestPointer n A B s in (
+      let x : ℕ = oldestPointer n A B s in
+      let t = g .told x (pointersIn (taken pointerWidth (view n s (pointers A B)))) (pointers-first A B (g .sender) (g .receiver) (g .waits)) in (
         unfold rule in refl,
         (
           ports-check n s a refl refl .1 (g .sender, g .receiver),
@@ -204,18 +232,11 @@ module _ (n : ℕ) (s : List ℕ) (formed : wellFormed n s ≡ true) where
             apart-check n s a .1 (g .apart),
             (
               pointer-check n s a (g .sender) (g .receiver) refl .1 (g .waits),
-              (told-check n s a formed (event receive x B) refl (g .receiver) (oldest-owned A B (g .sender) (g .receiver) (g .waits)) .1 told, tt),
+              (told-check n s a formed (event receive x B) refl (g .receiver) (oldest-owned A B (g .sender) (g .receiver) (g .waits)) .1 t, tt),
             ),
           ),
         ),
       )
-    where
-      told : (h : ℕ) → m .owner (oldestPointer n A B s) ≡ h + 1 → ¬ (B ≡ h) → ¬ (length (m .reports B h) ≡ reportPlaces)
-      told h q d = go (m .pointers A B) refl
-        where
-          go : (l : List ℕ) → m .pointers A B ≡ l → ¬ (length (m .reports B h) ≡ reportPlaces)
-          go [] e = absurd (g .waits (ap length e))
-          go (x ∷ l) e = g .told x l e h (ap (m .owner) (sym (oldest-is A B (g .sender) (g .receiver) (g .waits) x l e)) ∙ q) d
 
   pub hear-silent : (A o B : ℕ) → Guard n HEAR A o B m → Silent HEAR A o B
   hear-silent A o B g =
