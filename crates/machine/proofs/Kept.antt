@@ -40,7 +40,7 @@ sends receive = false
 sends create = false
 sends delete = false
 
-is-send : (k : Kind) → Dec (k ≡ send)
+pub is-send : (k : Kind) → Dec (k ≡ send)
 unfolding sends
 is-send send = yes refl
 is-send receive = no (λ q. true≢false (sym (ap sends q)))
