@@ -2,15 +2,14 @@
 -- Assumes nothing.
 use mathlib.Core.Path.{_≡_, refl, sym, ap, _∙_}
 use mathlib.Core.List.{List}
-use Prim.Native.Nat.{ℕ, suc, _+_, _-_, _*_, _<_, _≤_}
+use Prim.Native.Nat.{ℕ, _+_, _-_, _*_, _<_, _≤_}
 use native.Mathlib.Nat.{mul-suc, mul-le-mul, mul-le-mul-left}
 use native.Mathlib.Omega.{arith}
 use lib.ListN.{length, getD, set, take, drop, take-append-drop}
-use lib.Seq.{length-take-le, set-append-left, getD-take, getD-drop}
+use lib.Seq.{length-take-le, set-append-left}
 use borrow.Rule.Slice.PartMut.{putMid}
 use Rattle.books.specs.Books.{objectLimit}
 use Rattle.books.proofs.Parts.{part-long}
-use Rattle.lanes.specs.Lane.{entry}
 use Rattle.store.specs.Layout.{Stretch, objects, size, long, place, read, edit}
 use Rattle.stretches.specs.Stretches.{Few, Begins, Numbered}
 use Rattle.store.proofs.Frame.{read-at, read-is, edit-is}
@@ -35,13 +34,9 @@ object-set n s o b low sized =
     ap (λ (l : List ℕ). set l o b) (sym (take-append-drop objectLimit s)) ∙ set-append-left (take objectLimit s) (drop objectLimit s) o b fits
 
 module _ {n : ℕ} {c : Stretch} {r : ℕ} (h : Begins n c r) (s : List ℕ) where
-  -- one byte of a stretch, and of a lane's oldest entry
+  -- one byte of a stretch
   pub byte-is : (i k : ℕ) → k ≡ r + i → i < long n c → getD s k 0 ≡ getD (read n c s) i 0
   byte-is i k e low = rw (e, h .at) (sym (read-at n c s i low))
-
-  pub oldest-is : (w i k : ℕ) → k ≡ r + 1 + i → i < w → 1 + w ≤ long n c → getD s k 0 ≡ getD (entry w 0 (read n c s)) i 0
-  oldest-is w i k e low fits =
-      rw (getD-take w (drop (1 + w * 0) (read n c s)) i 0 low, getD-drop) (byte-is (1 + w * 0 + i) k (omega arith) (omega arith))
 
   -- all its bytes
   pub bytes-long : length s ≡ size n → length (read n c s) ≡ long n c

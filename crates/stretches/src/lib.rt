@@ -9,12 +9,13 @@ ghost use Rattle.books.specs.Books.{objectLimit, holdingEffect, transitEffect, 
 ghost use Rattle.books.specs.Fits.{holdingFits, transitFits};
 ghost use Rattle.counters.specs.Counters.{kindOf};
 ghost use Rattle.lanes.specs.Lane.{pointerWidth, reportWidth, pointerPlaces, reportPlaces, count, entry, pointersTo, added, taken};
-ghost use Rattle.cursors.specs.Cursor.{cursorOf, entryOf, Entered, Roomy};
+ghost use Rattle.cursors.specs.Cursor.{cursorOf, entryOf, frontOf, Entered, Roomy};
 ghost use Rattle.store.specs.Layout.{objects, held, heard, transit, pointers, reports, read, edit};
 ghost use Rattle.store.specs.Store.{objectByte, heldOf, heardOf, transitOf, onWay};
 ghost use Rattle.stretches.specs.Stretches.{Few, Lent, Begins, Numbered, LanesLow};
 use counters::Event;
 use cursors::Cursor;
+use cursors::Front;
 
 const OBJECTS: usize = 64; // the bytes of a row of holdings
 
@@ -117,19 +118,33 @@ pub fn report_count(store: &[u8], n: usize, a: usize, b: usize) -> u8
     store[reports_place(n, a, b)]
 }
 
-// The oldest pointer on a lane, and byte i of the oldest report.
-pub fn oldest_pointer(store: &[u8], n: usize, a: usize, b: usize) -> u8
-    requires { ⌜ Lent n (now store) × ((a < n) × (b < n)) ⌝ }
-    ensures { λ r. ⌜ r ≡ getD (entry pointerWidth 0 (read n (pointers a b) (now (store .entry)))) 0 0 ⌝ }
+// The oldest entry of a lane, at its cursor.
+fn oldest(lane: &[u8], w: usize) -> Front
+    requires { ⌜ Entered w (cursorOf (now lane)) (now lane) ⌝ }
+    ensures { λ r. ⌜ r ≡ frontOf w (now (lane .entry)) ⌝ }
 {
-    store[pointers_place(n, a, b) + 1]
+    let c = Cursor::of(lane);
+    c.front(lane, w)
 }
 
-pub fn oldest_report(store: &[u8], n: usize, a: usize, b: usize, i: usize) -> u8
-    requires { ⌜ Lent n (now store) × ((a < n) × ((b < n) × (i < reportWidth))) ⌝ }
-    ensures { λ r. ⌜ r ≡ getD (entry reportWidth 0 (read n (reports a b) (now (store .entry)))) i 0 ⌝ }
+// The oldest pointer on the lane from port a to port b, and the bytes of the oldest report.
+pub fn oldest_pointer(store: &[u8], n: usize, a: usize, b: usize) -> u8
+    requires { ⌜ Lent n (now store) × ((a < n) × ((b < n) × (0 < count (read n (pointers a b) (now store))))) ⌝ }
+    ensures { λ r. ⌜ r ≡ getD (entry pointerWidth 0 (read n (pointers a b) (now (store .entry)))) 0 0 ⌝ }
 {
-    store[reports_place(n, a, b) + 1 + i]
+    let at = pointers_place(n, a, b);
+    let end = at + POINTER_LANE;
+    let f = oldest(&store[at..end], 1);
+    f.first
+}
+
+pub fn oldest_report(store: &[u8], n: usize, a: usize, b: usize) -> Front
+    requires { ⌜ Lent n (now store) × ((a < n) × ((b < n) × (0 < count (read n (reports a b) (now store))))) ⌝ }
+    ensures { λ r. ⌜ r ≡ frontOf reportWidth (read n (reports a b) (now (store .entry))) ⌝ }
+{
+    let at = reports_place(n, a, b);
+    let end = at + REPORT_LANE;
+    oldest(&store[at..end], 2)
 }
 
 // The pointers to o on the lane from port a to port b, and on all lanes to port p.
