@@ -10,7 +10,7 @@ ghost use Rattle.books.specs.Books.{objectLimit, transitAt};
 ghost use Rattle.store.specs.Layout.{place, transit, pointers};
 ghost use Rattle.store.specs.Store.{holdingFormed, transitFormed};
 ghost use Rattle.form.specs.Check.{portHoldings, portTransits};
-use books::transit_at;
+use counters::transit_at;
 
 pub const OBJECTS: usize = 64; // objects
 
