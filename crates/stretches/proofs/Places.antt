@@ -1,8 +1,9 @@
 -- A stretch as code has it, from the place r that the code computes: what is read there, and the store once that part, lent, is back.
 -- Assumes nothing.
 use mathlib.Core.Path.{_≡_, refl, sym, ap, _∙_}
+use mathlib.Core.Bool.{true}
 use mathlib.Core.List.{List}
-use Prim.Native.Nat.{ℕ, _+_, _-_, _*_, _<_, _≤_}
+use Prim.Native.Nat.{ℕ, _+_, _-_, _*_, _<_}
 use native.Mathlib.Nat.{mul-suc, mul-le-mul, mul-le-mul-left}
 use native.Mathlib.Omega.{arith}
 use lib.ListN.{length, getD, set, take, drop, take-append-drop}
@@ -10,8 +11,10 @@ use lib.Seq.{length-take-le, set-append-left}
 use borrow.Rule.Slice.PartMut.{putMid}
 use Rattle.books.specs.Books.{objectLimit}
 use Rattle.books.proofs.Parts.{part-long}
+use Rattle.store.specs.Store.{wellFormed}
 use Rattle.store.specs.Layout.{Stretch, objects, size, long, place, read, edit}
-use Rattle.stretches.specs.Stretches.{Few, Begins, Numbered}
+use Rattle.stretches.specs.Stretches.{Few, Begins, Numbered, LanesLow}
+use Rattle.store.proofs.Formed.{formed-means}
 use Rattle.store.proofs.Frame.{read-at, read-is, edit-is}
 
 -- the number of a lane: the only products of the number of ports
@@ -49,3 +52,7 @@ module _ {n : ℕ} {c : Stretch} {r : ℕ} (h : Begins n c r) (s : List ℕ) whe
 
   pub back-is : (e : ℕ) → e ≡ r + long n c → (f : List ℕ → List ℕ) (ys : List ℕ) → ys ≡ f (take (e - r) (drop r s)) → putMid r (e - r) s ys ≡ edit n c f s
   back-is e k f ys p = rw (h .at) (edit-is n c s e (k ∙ ap (λ (x : ℕ). x + long n c) (h .at)) f ys (p ∙ ap (λ (x : ℕ). f (take (e - x) (drop x s))) (h .at)))
+
+-- what a well formed store offers to who counts pointers
+pub lanes-low : (n p : ℕ) (s : List ℕ) → wellFormed n s ≡ true → p < n → LanesLow n p s
+lanes-low n p s formed low a h = formed-means n s formed .pointerLanes a p h low .few

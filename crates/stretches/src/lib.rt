@@ -3,7 +3,7 @@
 ghost use mathlib.Core.Path.{_≡_};
 ghost use mathlib.Core.Bool.{true};
 ghost use mathlib.Core.List.{[], _∷_};
-ghost use Prim.Native.Nat.{_+_, _*_, _≤_, _<_};
+ghost use Prim.Native.Nat.{_*_, _≤_, _<_};
 ghost use lib.ListN.{getD, set};
 ghost use Rattle.books.specs.Books.{objectLimit, holdingEffect, transitEffect, transitTop};
 ghost use Rattle.books.specs.Fits.{holdingFits, transitFits};
