@@ -38,4 +38,5 @@ pub mod Never
 pub mod Exactly
 pub mod Asked
 pub mod Settled
+pub mod Writes
 pub mod Demands
