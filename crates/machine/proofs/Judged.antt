@@ -12,7 +12,7 @@ use Rattle.books.proofs.Booleans.{left-true, right-true}
 use Rattle.store.specs.Store.{wellFormed}
 use Rattle.machine.specs.Acts.{Act, Row, row, table, rowOf}
 use Rattle.machine.specs.Effects.{after}
-use Rattle.machine.proofs.Firsts.{positive, first-last}
+use Rattle.machine.proofs.Firsts.{NoneOf, positive, first-none, none-first, first-last}
 use Rattle.machine.specs.Machine.{firstIn, rule, refusal, outcome, does}
 
 -- the number that an act's own checks give, and where they give none, what 14 gives; b is whether the store after the act is well formed
@@ -38,6 +38,14 @@ module _ (n : ℕ) (a : Act) (s : List ℕ) where
   -- the first of an act's own checks whose rule applies, 2 among them, or 0
   abbrev pub own : ℕ
   own = firstIn (rule n a s) (2 ∷ rowOf a .checks)
+
+  -- they give 0 exactly when none applies
+  pub own-none : own ≡ 0 → NoneOf (rule n a s) (2 ∷ rowOf a .checks)
+  unfolding positive
+  own-none e = first-none (rule n a s) (2 ∷ rowOf a .checks) (positive-row a) e
+
+  pub none-own : NoneOf (rule n a s) (2 ∷ rowOf a .checks) → own ≡ 0
+  none-own f = none-first (rule n a s) (2 ∷ rowOf a .checks) f
 
   rule-1 : wellFormed n s ≡ true → rule n a s 1 ≡ false
   unfolding rule

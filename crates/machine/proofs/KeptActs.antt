@@ -98,6 +98,17 @@ module _ (n : ℕ) (few : transitTop n < 65535) (s : List ℕ) (formed : wellFor
   pointer-long : (A B : ℕ) → A < n → B < n → length (read n (pointers A B) s) ≡ long n (pointers A B)
   pointer-long A B ha hb = read-long n (pointers A B) s (form .sized) (lane-inside n A B ha hb)
 
+  -- the oldest pointer of a lane is an object in use
+  module _ (A B : ℕ) (ha : A < n) (hb : B < n) (some : 0 < count (read n (pointers A B) s)) where
+    pub oldest-used : ¬ (objectByte n (oldestPointer n A B s) s ≡ 0)
+    oldest-used = named (objectByte n (oldestPointer n A B s) s) (form .pointerLanes A B ha hb .all 0 some)
+
+    pub oldest-low : oldestPointer n A B s < objectLimit
+    oldest-low = byte-low (oldestPointer n A B s) oldest-used
+
+    pub pointer-keeps : length (taken pointerWidth (read n (pointers A B) s)) ≡ long n (pointers A B)
+    pointer-keeps = length-taken pointerWidth pointerPlaces (read n (pointers A B) s) (pointer-long A B ha hb) (form .pointerLanes A B ha hb .few) some
+
   -- SEND: by the home, the transit of B must not be at its top
   pub send-kept : (A o B : ℕ) → NoneOf (rule n (act SEND A o B) s) (2 ∷ rowOf (act SEND A o B) .checks)
       → wellFormed n (after n (act SEND A o B) s) ≡ happensFits n (sending o A B) s
@@ -141,8 +152,8 @@ module _ (n : ℕ) (few : transitTop n < 65535) (s : List ℕ) (formed : wellFor
       → wellFormed n (after n (act DELIVER A o B) s) ≡ happensFits n (event receive (oldestPointer n A B s) B) s
   unfolding after
   deliver-kept A o B f =
-      then-happens A B ha hb (taken pointerWidth) keeps formed0 (event receive (oldestPointer n A B s) B)
-      (proper-at n receive (oldestPointer n A B s) B hb low (omega arith)) used (passed-11 n (act DELIVER A o B) s (f .1 .1 .1 .1 .0))
+      then-happens A B ha hb (taken pointerWidth) (pointer-keeps A B ha hb some) formed0 (event receive (oldestPointer n A B s) B)
+      (proper-at n receive (oldestPointer n A B s) B hb (oldest-low A B ha hb some) (omega arith)) (oldest-used A B ha hb some) (passed-11 n (act DELIVER A o B) s (f .1 .1 .1 .1 .0))
     where
       ha : A < n
       ha = passed-A n (act DELIVER A o B) s refl (f .1 .0)
@@ -156,17 +167,8 @@ module _ (n : ℕ) (few : transitTop n < 65535) (s : List ℕ) (formed : wellFor
       lane : LaneForm pointerWidth pointerPlaces (eqb A B) (pointerRight (read n objects s)) (read n (pointers A B) s)
       lane = form .pointerLanes A B ha hb
 
-      used : ¬ (objectByte n (oldestPointer n A B s) s ≡ 0)
-      used = named (objectByte n (oldestPointer n A B s) s) (lane .all 0 some)
-
-      low : oldestPointer n A B s < objectLimit
-      low = byte-low (oldestPointer n A B s) used
-
-      keeps : length (taken pointerWidth (read n (pointers A B) s)) ≡ long n (pointers A B)
-      keeps = length-taken pointerWidth pointerPlaces (read n (pointers A B) s) (pointer-long A B ha hb) (lane .few) some
-
       formed0 : wellFormed n (edit n (pointers A B) (taken pointerWidth) s) ≡ true
       formed0 =
-          pointers-written n s formed A B ha hb (taken pointerWidth) keeps
+          pointers-written n s formed A B ha hb (taken pointerWidth) (pointer-keeps A B ha hb some)
           ∙ taken-formed pointerWidth pointerPlaces (read n (pointers A B) s) (pointer-long A B ha hb) (lane .few) some (eqb A B) (pointerRight (read n objects s))
           (means-lane pointerWidth pointerPlaces (eqb A B) (pointerRight (read n objects s)) (read n (pointers A B) s) lane)

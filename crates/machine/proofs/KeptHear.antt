@@ -78,7 +78,7 @@ module _ (n : ℕ) (few : transitTop n < 65535) (s : List ℕ) (formed : wellFor
   lane-long : length l ≡ long n (reports A B)
   lane-long = read-long n (reports A B) s (form .sized) (lane-inside n A B ha hb)
 
-  keeps : length (taken reportWidth l) ≡ long n (reports A B)
+  pub keeps : length (taken reportWidth l) ≡ long n (reports A B)
   keeps = length-taken reportWidth reportPlaces l lane-long (lane .few) some
 
   abbrev s0 : List ℕ

@@ -19,18 +19,22 @@ module _ (n : ℕ) (a : Act) (s : List ℕ) (formed : wellFormed n s ≡ true) w
   unfolding does
   does-is k e = ap (λ (j : ℕ). outcome n j a s) e
 
-  -- the number that its own checks give
-  own-at : (before behind : List ℕ) (k : ℕ) → 2 ∷ rowOf a .checks ≡ before ++ (k ∷ behind) → NoneOf (rule n a s) before → rule n a s k ≡ true → own n a s ≡ k
+  -- the number that its own checks give: k, none before it applying
+  pub own-at : (before behind : List ℕ) (k : ℕ) → 2 ∷ rowOf a .checks ≡ before ++ (k ∷ behind) → NoneOf (rule n a s) before → rule n a s k ≡ true → own n a s ≡ k
   own-at before behind k e f h = ap (firstIn (rule n a s)) e ∙ given-first (rule n a s) before behind k h f
 
   refused-by : (k : ℕ) → own n a s ≡ k → (k ≡ 0 → ⊥) → refusal n a s ≡ k
   refused-by k e z = refusal-judged n a s formed ∙ rw (e, ne-eqb k 0 z)
 
+  -- refused by what its own checks give, k, other than 13
+  pub refuses-own : (k : ℕ) → own n a s ≡ k → (k ≡ 0 → ⊥) → (k ≡ 13 → ⊥) → gives k 0 s ≡ does n a s
+  unfolding outcome
+  refuses-own k e z t = sym (does-is k (refused-by k e z) ∙ rw (ne-eqb k 0 z, ne-eqb k 13 t))
+
   -- refused by one of its own checks, k, other than 13, none before it applying
   pub refuses : (before behind : List ℕ) (k : ℕ) → 2 ∷ rowOf a .checks ≡ before ++ (k ∷ behind) → NoneOf (rule n a s) before → rule n a s k ≡ true
       → (k ≡ 0 → ⊥) → (k ≡ 13 → ⊥) → gives k 0 s ≡ does n a s
-  unfolding outcome
-  refuses before behind k e f h z t = sym (does-is k (refused-by k (own-at before behind k e f h) z) ∙ rw (ne-eqb k 0 z, ne-eqb k 13 t))
+  refuses before behind k e f h z t = refuses-own k (own-at before behind k e f h) z t
 
   -- refused by 13, with the lowest port standing against
   pub refuses-13 : (before behind : List ℕ) → 2 ∷ rowOf a .checks ≡ before ++ (13 ∷ behind) → NoneOf (rule n a s) before → rule n a s 13 ≡ true
