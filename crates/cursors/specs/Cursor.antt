@@ -1,9 +1,13 @@
 -- A lane's cursor: how many entries the lane has, its oldest being entry 0; and what the code asks of a lane. An entry is w bytes.
 -- Assumes nothing.
+use mathlib.Core.Bool.{Bool, not}
 use mathlib.Core.List.{List, [], _∷_}
-use Prim.Native.Nat.{ℕ, _+_, _*_, _≤_, _<_}
+use Prim.Native.Nat.{ℕ, _+_, _*_, _%_, _≤_, _<_}
 use mathlib.Core.Path.{_≡_}
+use lib.Dec.{eqb}
 use lib.ListN.{length, getD, take}
+use Rattle.books.specs.Numbers.{every}
+use Rattle.books.specs.Books.{objectLimit}
 use Rattle.cursors.specs.declared.Cursor.{Cursor}
 use Rattle.cursors.specs.declared.Front.{Front}
 use Rattle.lanes.specs.Lane.{pointerWidth, reportWidth, count, entry}
@@ -34,3 +38,7 @@ pub record Roomy (w : ℕ) (c : Cursor) (l : List ℕ) : Type 0 where
   pub cursor : c .len ≡ count l
   pub room : 1 + w * c .len + w ≤ length l
   pub small : c .len < 255
+
+-- no entry is about o: a pointer is an object's number, and a report's first byte holds one in its low bits
+abbrev pub unnamed : ℕ → ℕ → List ℕ → Bool
+unnamed w o l = every (count l) (λ i. not (eqb (getD (entry w i l) 0 0 % objectLimit) o))

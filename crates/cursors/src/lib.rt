@@ -4,7 +4,7 @@ ghost use Prim.Native.Nat.{_+_, _-_, _*_, _≤_, _<_};
 ghost use lib.ListN.{length, drop};
 ghost use lib.Seq.{sets, paste};
 ghost use Rattle.lanes.specs.Lane.{pointerPlaces, pointerWidth, reportWidth, count, added, taken, pointersTo};
-ghost use Rattle.cursors.specs.Cursor.{cursorOf, entryOf, frontOf, Entered, Roomy};
+ghost use Rattle.cursors.specs.Cursor.{cursorOf, entryOf, frontOf, unnamed, Entered, Roomy};
 
 // How many entries a lane has: the oldest stands first, the next free place is past so many.
 pub struct Cursor {
@@ -116,4 +116,22 @@ pub fn pointers_to(lane: &[u8], o: u8) -> usize
         }
     }
     t
+}
+
+// Is no entry about o?
+pub fn unnamed(lane: &[u8], w: usize, o: usize) -> bool
+    requires { ⌜ (0 < w) × (1 + w * count (now lane) ≤ length (now lane)) ⌝ }
+    ensures { λ r. ⌜ r ≡ unnamed w o (now (lane .entry)) ⌝ }
+{
+    let n = lane[0] as usize;
+    let mut i = 0;
+    let mut at = 1;
+    while i < n {
+        if lane[at] as usize % 64 == o {
+            return false;
+        }
+        i += 1;
+        at += w;
+    }
+    true
 }
