@@ -9,7 +9,7 @@ ghost use Rattle.books.specs.Books.{objectLimit, holdingEffect, transitEffect, 
 ghost use Rattle.books.specs.Fits.{holdingFits, transitFits};
 ghost use Rattle.counters.specs.Counters.{kindOf};
 ghost use Rattle.lanes.specs.Lane.{pointerWidth, reportWidth, pointerPlaces, reportPlaces, count, entry, pointersTo, added, taken};
-ghost use Rattle.cursors.specs.Cursor.{cursorOf, entryOf, frontOf, Entered, Roomy};
+ghost use Rattle.cursors.specs.Cursor.{cursorOf, entryOf, frontOf, Entered, Roomy, unnamed};
 ghost use Rattle.store.specs.Layout.{objects, held, heard, transit, pointers, reports, read, edit};
 ghost use Rattle.store.specs.Store.{objectByte, heldOf, heardOf, transitOf, onWay};
 ghost use Rattle.stretches.specs.Stretches.{Few, Lent, Begins, Numbered, LanesLow};
@@ -116,6 +116,25 @@ pub fn report_count(store: &[u8], n: usize, a: usize, b: usize) -> u8
     ensures { λ r. ⌜ r ≡ count (read n (reports a b) (now (store .entry))) ⌝ }
 {
     store[reports_place(n, a, b)]
+}
+
+// Is no pointer from port a to port b o, and no report about o?
+pub fn pointers_unnamed(store: &[u8], n: usize, a: usize, b: usize, o: usize) -> bool
+    requires { ⌜ Lent n (now store) × ((a < n) × ((b < n) × (count (read n (pointers a b) (now store)) ≤ pointerPlaces))) ⌝ }
+    ensures { λ r. ⌜ r ≡ unnamed pointerWidth o (read n (pointers a b) (now (store .entry))) ⌝ }
+{
+    let at = pointers_place(n, a, b);
+    let end = at + POINTER_LANE;
+    cursors::unnamed(&store[at..end], 1, o)
+}
+
+pub fn reports_unnamed(store: &[u8], n: usize, a: usize, b: usize, o: usize) -> bool
+    requires { ⌜ Lent n (now store) × ((a < n) × ((b < n) × (count (read n (reports a b) (now store)) ≤ reportPlaces))) ⌝ }
+    ensures { λ r. ⌜ r ≡ unnamed reportWidth o (read n (reports a b) (now (store .entry))) ⌝ }
+{
+    let at = reports_place(n, a, b);
+    let end = at + REPORT_LANE;
+    cursors::unnamed(&store[at..end], 2, o)
 }
 
 // The oldest entry of a lane, at its cursor.
