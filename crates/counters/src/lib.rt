@@ -1,4 +1,6 @@
 // The home's books: the two counters, and a port's rows of them. n is the number of ports.
+#![tactic(auto)]
+
 ghost use Rattle.std.specs.Prelude.{◌≡◌, true, ◌+◌, ◌*◌, ◌≤◌, ◌<◌, length, get_or, pos};
 ghost use Rattle.paper.specs.Paper.{send, receive, create, delete};
 ghost use Rattle.books.specs.Books.{transit_zero, transit_top, transit_at, set_transit, transit_effect, holding_effect};
