@@ -1,4 +1,6 @@
 // The ten acts on the lent store.
+#![tactic(auto)]
+
 pub mod events;
 pub mod reads;
 

@@ -1,5 +1,7 @@
 // One stretch of the lent store of n ports at a time: where it begins, what it says, and what an event, an entry or an owner does to
 // it. Its part of the store is lent to the function that knows it.
+#![tactic(auto)]
+
 ghost use Rattle.std.specs.Prelude.{◌≡◌, true, [], ◌∷◌, ◌*◌, ◌≤◌, ◌<◌, get_or, set};
 ghost use Rattle.books.specs.Books.{object_limit, holding_effect, transit_effect, transit_top};
 ghost use Rattle.books.specs.Fits.{holding_fits, transit_fits};
