@@ -1,9 +1,9 @@
 -- Laws of a lane's bytes as the code reads and writes them: an entry's bytes, entries that move up, the entries that are o.
 -- Assumes nothing.
 use mathlib.Core.Path.{◌≡◌, refl, sym, ap, ◌∙◌}
-use mathlib.Core.Bool.{cond}
+use mathlib.Core.Bool.{Bool, true, false, cond, not}
 use mathlib.Core.List.{List, [], ◌∷◌, ◌++◌, append-nil}
-use Prim.Native.Nat.{ℕ, ◌+◌, ◌-◌, ◌*◌, ◌<◌, ◌≤◌}
+use Prim.Native.Nat.{ℕ, ◌+◌, ◌-◌, ◌*◌, ◌%◌, ◌<◌, ◌≤◌}
 use native.Mathlib.Numerals.{add-one}
 use native.Mathlib.Decide.{ℕ_discrete}
 use native.Mathlib.Omega.{arith}
@@ -12,6 +12,7 @@ use lib.ListN.{length, get_or, set, take, drop, replicate, length-drop, drop_of_
 use lib.Seq.{sets, sets-eq, paste, length-paste, length-take-le, paste-suc, take-paste, take_all, length_paste_head, get_or-append-add, get_or-drop, get_or-take, get_or-set_same}
 use borrow.Author.Tests.{eq-eqb, ne_eqb}
 use Rattle.books.specs.Numbers.{sum_to}
+use Rattle.books.specs.Books.{object_limit}
 use Rattle.cursors.specs.declared.Cursor.{Cursor}
 use Rattle.lanes.specs.Lane.{pointer_width, report_width, count, entry, added, taken, pointers_to}
 use Rattle.cursors.specs.Cursor.{cursor_of, entry_of, front_of}
@@ -123,3 +124,17 @@ module _ (o : ℕ) (l : List ℕ) where
   pub up_to_all : up_to (count l) ≡ pointers_to o l
   unfolding pointers_to
   up_to_all = refl
+
+-- entry i is not about o, by its first byte
+module _ (w o : ℕ) (l : List ℕ) where
+  abbrev pub other : ℕ → Bool
+  other i = not (eqb (get_or (entry w i l) 0 0 % object_limit) o)
+
+  first_at : (i at : ℕ) → 0 < w → at ≡ 1 + w * i → get_or (entry w i l) 0 0 ≡ get_or l at 0
+  first_at i at h e = entry_byte w l i 0 h ∙ ap (λ (k : ℕ). get_or l k 0) (omega arith)
+
+  pub is-o : (i at : ℕ) → 0 < w → at ≡ 1 + w * i → get_or l at 0 % object_limit ≡ o → other i ≡ false
+  is-o i at h e q = ap not (eq-eqb _ o (ap (λ (k : ℕ). k % object_limit) (first_at i at h e) ∙ q))
+
+  pub not-o : (i at : ℕ) → 0 < w → at ≡ 1 + w * i → (get_or l at 0 % object_limit ≡ o → ⊥) → other i ≡ true
+  not-o i at h e q = ap not (ne_eqb _ o (λ r. q (ap (λ (k : ℕ). k % object_limit) (sym (first_at i at h e)) ∙ r)))
