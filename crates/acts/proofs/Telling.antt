@@ -1,8 +1,8 @@
 -- An event told, and happening, in code: what the writes ask, and what they leave; and the events that can happen on a well formed
 -- store.
 -- Assumes nothing.
-use mathlib.Core.Path.{◌≡◌, refl, sym, ap, ◌∙◌}
-use mathlib.Core.Bool.{Bool, true, false, cond, ◌&&◌}
+use mathlib.Core.Path.{◌≡◌, refl, ap, ◌∙◌}
+use mathlib.Core.Bool.{Bool, true, false, cond}
 use mathlib.Core.List.{List}
 use Prim.Native.Nat.{ℕ, ◌+◌, ◌<◌}
 use native.Mathlib.Omega.{arith}
@@ -10,7 +10,7 @@ use lib.Dec.{eqb}
 use lib.ListN.{length}
 use borrow.Author.Tests.{eq-eqb, ne_eqb}
 use Rattle.paper.specs.Paper.{send, Event}
-use Rattle.books.specs.Books.{object_limit, transit_effect, holding_effect}
+use Rattle.books.specs.Books.{holding_effect}
 use Rattle.books.specs.Fits.{holding_fits, transit_fits}
 use Rattle.books.proofs.Booleans.{both_true, left_true, right_true}
 use Rattle.books.proofs.Effects.{length_holding}

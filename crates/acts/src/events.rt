@@ -10,7 +10,7 @@ ghost use Rattle.acts.specs.Told.{told, Hearable, Placed, Tellable, Possible};
 use counters::Event;
 
 // An event about an object: what it is, where it happens, and the port that it names.
-#[derive(Drop)]
+#[derive(Clone, Copy)]
 pub struct Happening {
     pub kind: Event,
     pub object: usize,

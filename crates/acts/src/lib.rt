@@ -6,7 +6,7 @@ pub mod reads;
 
 // What an act answers: taken, with its value; refused, with the refusal number; or refused because a port stands against
 // retiring, with that port.
-#[derive(Drop)]
+#[derive(Clone, Copy)]
 pub enum Reply {
     Taken(u32),
     Refused(u32),

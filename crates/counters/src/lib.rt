@@ -8,7 +8,7 @@ ghost use Rattle.books.specs.Fits.{transit_fits, holding_fits};
 ghost use Rattle.counters.specs.Counters.{Ports, TransitIn, kind_of, counted, stored_as, in_range, within, transit_step, holding_step};
 
 // Table 1 of document 004: the events s, r, + and -.
-#[derive(Drop)]
+#[derive(Clone, Copy)]
 pub enum Event {
     Send,
     Receive,
@@ -17,21 +17,21 @@ pub enum Event {
 }
 
 // The holding of an object at a port.
-#[derive(Drop)]
+#[derive(Clone, Copy)]
 pub struct Holding(pub u8);
 
 // The heard transit of an object to a port: signed, and no Holding.
-#[derive(Drop)]
+#[derive(Clone, Copy)]
 pub struct Transit(pub i16);
 
 // A counter after an event, or out of range.
-#[derive(Drop)]
+#[derive(Clone, Copy)]
 pub enum HoldingStep {
     Now(Holding),
     Out,
 }
 
-#[derive(Drop)]
+#[derive(Clone, Copy)]
 pub enum TransitStep {
     Now(Transit),
     Out,

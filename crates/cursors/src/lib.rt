@@ -8,13 +8,13 @@ ghost use Rattle.lanes.specs.Lane.{pointer_places, pointer_width, report_width, 
 ghost use Rattle.cursors.specs.Cursor.{cursor_of, entry_of, front_of, unnamed, Entered, Roomy};
 
 // How many entries a lane has: the oldest stands first, the next free place is past so many.
-#[derive(Drop)]
+#[derive(Clone, Copy)]
 pub struct Cursor {
     pub len: usize,
 }
 
 // The oldest entry, with the cursor.
-#[derive(Drop)]
+#[derive(Clone, Copy)]
 pub struct Front {
     pub first: u8,
     pub second: u8,
