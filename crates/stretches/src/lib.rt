@@ -224,7 +224,7 @@ pub fn transit_fits(store: &[u8], n: usize, p: usize, o: usize, e: Event) -> boo
 // An event about o: what it does to port p's true holdings as it happens, and to its heard holdings and heard transits as it is heard.
 pub fn change_held(store: &mut [u8], n: usize, p: usize, o: usize, e: Event)
     requires lent { Lent n store.old × ((p < n) × (o < object_limit)) }
-    requires store_value { holding_fits (kind_of e) (held_of n p o store.old) ≡ true }
+    requires fits { holding_fits (kind_of e) (held_of n p o store.old) ≡ true }
     ensures { store.new ≡ edit n (held p) (holding_effect (kind_of e) o) store.old }
 {
     let at = held_place(n, p);
@@ -234,7 +234,7 @@ pub fn change_held(store: &mut [u8], n: usize, p: usize, o: usize, e: Event)
 
 pub fn change_heard(store: &mut [u8], n: usize, p: usize, o: usize, e: Event)
     requires lent { Lent n store.old × ((p < n) × (o < object_limit)) }
-    requires store_value { holding_fits (kind_of e) (heard_of n p o store.old) ≡ true }
+    requires fits { holding_fits (kind_of e) (heard_of n p o store.old) ≡ true }
     ensures { store.new ≡ edit n (heard p) (holding_effect (kind_of e) o) store.old }
 {
     let at = heard_place(n, p);
@@ -244,7 +244,7 @@ pub fn change_heard(store: &mut [u8], n: usize, p: usize, o: usize, e: Event)
 
 pub fn change_transit(store: &mut [u8], n: usize, p: usize, o: usize, e: Event)
     requires lent { Lent n store.old × ((p < n) × ((o < object_limit) × (transit_of n p o store.old ≤ transit_top n))) }
-    requires store_value { transit_fits n (kind_of e) (transit_of n p o store.old) ≡ true }
+    requires fits { transit_fits n (kind_of e) (transit_of n p o store.old) ≡ true }
     ensures { store.new ≡ edit n (transit p) (transit_effect (kind_of e) o) store.old }
 {
     let at = transit_place(n, p);

@@ -10,7 +10,7 @@ pub holding_effect-requires : goal.holding_effect-requires
 holding_effect-requires c =
     let h = c.held_place-at.ensures in
     let s = c.args.store.now in
-    rw (part_is h s _ refl) (omega (arith, bytes-long h s c.requires.lent.0.sized), c.requires.store_value)
+    rw (part_is h s _ refl) (omega (arith, bytes-long h s c.requires.lent.0.sized), c.requires.fits)
 
 pub returns : goal.returns
 returns c =

@@ -11,7 +11,7 @@ transit_effect-requires c =
     let h = c.transit_place-at.ensures in
     let s = c.args.store.now in
     let g = c.requires.lent in
-    rw (part_is h s _ refl) (record { ports = (omega arith, omega arith); place = omega (arith, bytes-long h s g.0.sized); range = g.1.1.1 }, c.requires.store_value)
+    rw (part_is h s _ refl) (record { ports = (omega arith, omega arith); place = omega (arith, bytes-long h s g.0.sized); range = g.1.1.1 }, c.requires.fits)
 
 pub returns : goal.returns
 returns c =
