@@ -1,10 +1,10 @@
 -- What a lane's test is, by the ways that the code decides it, and where the lanes of a row stand.
 -- Assumes nothing.
-use mathlib.Core.Path.{◌≡◌, refl, sym, ap, ◌∙◌}
+use mathlib.Core.Path.{◌≡◌, refl, sym}
 use mathlib.Core.Bool.{Bool, true, false, not, ◌&&◌, ◌||◌, and-false}
 use mathlib.Core.List.{List, [], ◌∷◌}
 use Prim.Native.Nat.{ℕ, ◌+◌, ◌-◌, ◌*◌, ◌<◌, ◌≤◌}
-use lib.Dec.{leb, eqb, leb-zero}
+use lib.Dec.{eqb, leb-zero}
 use lib.ListN.{length, get_or, take, drop, length-drop}
 use lib.Seq.{take_all}
 use borrow.Author.Tests.{le-leb, lt-leb, ne_eqb}
@@ -63,6 +63,9 @@ module _ (w places : ℕ) (own : Bool) (right : List ℕ → Bool) (l : List ℕ
       go : (b : Bool) → (b && true && true) ≡ b
       go true = refl
       go false = refl
+
+-- the ways together
+pub ruleset lane_ways = (lane_none, lane_long, lane_own, lane_wrong, lane_right)
 
 -- rows of n lanes of m bytes: where the first and the next begin, and that each ends within the square
 pub first-row : (m n : ℕ) → m * (n * 0) ≡ 0

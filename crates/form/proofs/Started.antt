@@ -3,17 +3,17 @@
 use mathlib.Core.Path.{◌≡◌, refl, sym, ap, ◌∙◌}
 use mathlib.Core.Bool.{Bool, true, false, cond}
 use mathlib.Core.List.{List, [], ◌∷◌, ◌++◌, append_assoc, append-nil}
-use Prim.Native.Nat.{ℕ, zero, suc, ◌+◌, ◌-◌, ◌*◌, ◌/◌, ◌%◌, ◌<◌, ◌≤◌}
+use Prim.Native.Nat.{ℕ, zero, suc, ◌+◌, ◌-◌, ◌*◌, ◌/◌, ◌%◌, ◌≤◌}
 use native.Mathlib.Omega.{arith}
 use native.Mathlib.Numerals.{add-one}
 use lib.Dec.{eqb}
-use lib.ListN.{length, set, take, drop, replicate, length-replicate, replicate-append-replicate, length-append, length-drop, drop_of_length-le}
+use lib.ListN.{length, set, drop, replicate, length-replicate, replicate-append-replicate, length-append, length-drop, drop_of_length-le}
 use lib.Seq.{set_at, take_at, drop_at, append_snoc, drop-drop}
 use borrow.Author.Tests.{eq-eqb, ne_eqb}
 use borrow.Rule.Slice.PartMut.{put_mid}
 use Rattle.books.specs.Books.{object_limit, transit_zero}
 use Rattle.store.specs.Layout.{transit, pointers, extent, size, section_at, place}
-use Rattle.store.specs.Store.{words, zeros, fresh}
+use Rattle.store.specs.Store.{words, fresh}
 
 words_long : (m k : ℕ) → length (words m k) ≡ 2 * m
 unfolding words

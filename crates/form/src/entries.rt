@@ -82,6 +82,7 @@ fn entries_right(w: usize, n: usize, obj: &[u8], a: usize, b: usize, k: usize, l
 }
 
 // One lane. An empty one, the usual case, is one test of its places.
+#[tactic(auto, using(crate::proofs::CheckedLanes::lane_ways))]
 fn lane_formed(
     w: usize,
     places: usize,
