@@ -1,7 +1,7 @@
 -- Laws of the loops that test every number below n: one leaves at the first failure, one keeps the greatest of fault numbers, one joins
 -- bytes bit by bit. A fault number is 0 exactly where the test holds.
 -- Assumes nothing.
-use mathlib.Core.Path.{◌≡◌, refl, sym, subst, ap, ◌∙◌}
+use mathlib.Core.Path.{◌≡◌, refl, subst, ap, ◌∙◌}
 use mathlib.Core.Bool.{Bool, true, false, ◌&&◌, and-false}
 use mathlib.Core.Logic.{⊎_elim}
 use Prim.Native.Nat.{ℕ, zero, suc, ◌+◌, ◌*◌, ◌<◌, ◌≤◌, max}

@@ -1,1 +1,3 @@
+#![tactic(auto)]
+
 // The home's books as definitions and laws; crate counters has their code. Nothing here runs: see specs/.

@@ -1,1 +1,3 @@
+#![tactic(auto)]
+
 // Document 01's P cases, proved over the definitions. Nothing here runs.

@@ -1,12 +1,12 @@
 -- The counters of the books' code: the signed count that a stored transit stands for, and each counter after an event, or out where
 -- it would leave its range. n is the number of ports.
 -- Assumes nothing.
-use Rattle.std.specs.Prelude.{Bool, true, cond, ◌&&◌, List, ℕ, ◌+◌, ◌*◌, ◌≤◌, ◌<◌, ltb, length, ℤ, pos, ◌+ℤ◌, nat_abs}
+use Rattle.std.specs.Prelude.{Bool, cond, ◌&&◌, List, ℕ, ◌+◌, ◌*◌, ◌≤◌, ◌<◌, length, ℤ, pos, ◌+ℤ◌, nat_abs}
 use Rattle.std.proofs.Math.IntN.{sub_ℕ}
 use Rattle.std.specs.Int.Signed.{le_z}
 use Rattle.paper.specs.Paper.{Kind, send, receive, create, delete, in_transit_after, pointers_to_after}
 use Rattle.books.specs.Fits.{holding_fits}
-use Rattle.books.specs.Books.{holding_limit, transit_zero, transit_top, transit_at}
+use Rattle.books.specs.Books.{transit_zero, transit_top, transit_at}
 use Rattle.counters.specs.declared.Event.{Event}
 use Rattle.counters.specs.declared.Event.TheVariants as EV
 use Rattle.counters.specs.declared.HoldingStep.{HoldingStep}

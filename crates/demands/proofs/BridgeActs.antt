@@ -17,7 +17,7 @@ use Rattle.store.specs.Layout.{Stretch, objects, pointers, reports, edit}
 use Rattle.store.specs.Store.{reported, well_formed}
 use Rattle.store.proofs.Frame.{lane_inside, view, upd, view_in, Viewed, edit_viewed}
 use Rattle.machine.specs.Acts.{act, event, sending, SEND, COPY, DROP, DELIVER}
-use Rattle.machine.specs.Effects.{happens, owned, oldest_pointer, after}
+use Rattle.machine.specs.Effects.{happens, oldest_pointer, after}
 use Rattle.demands.proofs.Events.{Proper}
 use Rattle.demands.proofs.Model.{M, SameLanes, Added, Taken, Happens, Effect}
 use Rattle.demands.proofs.Steps.{Tellable, MayDeliver, Guard}

@@ -3,7 +3,7 @@
 use mathlib.Core.Path.{◌≡◌, refl, sym, ap, ◌∙◌}
 use mathlib.Core.Bool.{cond, ◌&&◌}
 use mathlib.Core.List.{List, [], ◌∷◌, ◌++◌}
-use Prim.Native.Nat.{ℕ, ◌+◌, ◌-◌, ◌*◌, ◌≤◌, ◌<◌}
+use Prim.Native.Nat.{ℕ, ◌+◌, ◌*◌, ◌≤◌, ◌<◌}
 use native.Mathlib.Omega.{arith}
 use native.Mathlib.Decide.{ℕ_discrete, dec_lt}
 use lib.Dec.{ltb, eqb}
@@ -13,7 +13,7 @@ use Rattle.paper.specs.Paper.{send, receive, create, delete, Event}
 use Rattle.books.specs.Books.{object_limit, holding_limit, transit_zero, transit_top, transit_at, holding_effect, transit_effect}
 use Rattle.lanes.specs.Lane.{report_places, report_width, count}
 use Rattle.lanes.proofs.Entries.{entries-added}
-use Rattle.store.specs.Layout.{Stretch, objects, held, heard, transit, pointers, reports}
+use Rattle.store.specs.Layout.{Stretch, objects, held, heard, transit, reports}
 use Rattle.store.specs.Store.{report, reported}
 use Rattle.store.proofs.Frame.{lane_inside, upd, Viewed}
 use Rattle.machine.specs.Effects.{happens}

@@ -1,1 +1,3 @@
+#![tactic(auto)]
+
 // The customer's demands 2 and 3 over the definitions. Nothing here runs: see specs/.

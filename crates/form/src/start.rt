@@ -2,7 +2,7 @@
 ghost use Rattle.std.specs.Prelude.{◌≡◌, cond, ◌*◌, ◌<◌, ◌≤◌, eqb, length, replicate};
 ghost use Rattle.store.specs.Layout.{size};
 ghost use Rattle.store.specs.Store.{words};
-ghost use Rattle.store.specs.Store.{fresh as freshStore};
+ghost use Rattle.store.specs.Store.{fresh as fresh_store};
 
 use super::check::size_of;
 use super::counts::OBJECTS;
@@ -36,7 +36,7 @@ fn write_words(s: &mut [u8], m: usize, k: u16)
 // A store of n ports becomes fresh; a buffer of another size is answered false and not written.
 pub fn fresh_of(store: &mut [u8], n: usize) -> bool
     requires { (0 < n) × (n ≤ 16) }
-    ensures { (result ≡ eqb (length store.old) (size n)) × (store.new ≡ cond (eqb (length store.old) (size n)) (freshStore n) store.old) }
+    ensures { (result ≡ eqb (length store.old) (size n)) × (store.new ≡ cond (eqb (length store.old) (size n)) (fresh_store n) store.old) }
 {
     if store.len() != size_of(n) {
         return false;
@@ -50,7 +50,7 @@ pub fn fresh_of(store: &mut [u8], n: usize) -> bool
 
 // START.
 pub fn fresh(store: &mut [u8]) -> bool
-    ensures { (result ≡ eqb (length store.old) (size 8)) × (store.new ≡ cond (eqb (length store.old) (size 8)) (freshStore 8) store.old) }
+    ensures { (result ≡ eqb (length store.old) (size 8)) × (store.new ≡ cond (eqb (length store.old) (size 8)) (fresh_store 8) store.old) }
 {
     fresh_of(store, 8)
 }

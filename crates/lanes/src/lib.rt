@@ -1,1 +1,3 @@
+#![tactic(auto)]
+
 // One lane as definitions and laws; crate cursors has its code. Nothing here runs: see specs/.

@@ -1,1 +1,3 @@
+#![tactic(auto)]
+
 // The machine as definitions and laws; crate acts has its code. Nothing here runs: see specs/.

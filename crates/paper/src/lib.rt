@@ -1,1 +1,3 @@
+#![tactic(auto)]
+
 // Document 004 as definitions. Nothing here runs: see specs/.

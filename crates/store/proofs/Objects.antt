@@ -19,18 +19,7 @@ use Rattle.store.specs.Layout.{Stretch, objects, held, heard, transit, pointers,
 use Rattle.store.specs.Store.{holding_formed, transit_formed, pointer_right, report_right, held_of, heard_of, transit_of, well_formed}
 use Rattle.store.proofs.Frame.{port-inside, lane_inside, read-long, view, upd, view_in, viewed, edit_viewed}
 use Rattle.store.proofs.Formed.{Formed, formed_means, means_holding, means_transit}
-use Rattle.store.proofs.Written.{
-  holdings_right,
-  transits_right,
-  pointer_lane_right,
-  report_lane_right,
-  homes_in,
-  holdings_in,
-  transits_in,
-  pointers_in,
-  reports_in,
-  formed_viewed,
-}
+use Rattle.store.proofs.Written.{holdings_right, transits_right, homes_in, holdings_in, transits_in, pointers_in, reports_in, formed_viewed}
 
 module _ (n : ℕ) where
   -- the entries of every lane are right by the object bytes obj

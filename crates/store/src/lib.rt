@@ -1,1 +1,3 @@
+#![tactic(auto)]
+
 // The lent store as definitions and laws; crates form and stretches have its code. Nothing here runs: see specs/.
