@@ -188,6 +188,7 @@ pub fn transit_fits(e: Event, row: &[u8], o: usize, n: usize) -> bool
 }
 
 // An event that leaves it in range is heard.
+#[tactic(auto, unfolding(books::specs::Books::transit_effect))]
 pub fn transit_effect(e: Event, row: &mut [u8], o: usize, n: usize)
     requires { TransitIn n o row.old × (transit_fits n (kind_of e) (transit_at o row.old) ≡ true) }
     ensures { row.new ≡ transit_effect (kind_of e) o row.old }
@@ -225,6 +226,7 @@ pub fn holding_fits(e: Event, row: &[u8], o: usize) -> bool
 }
 
 // An event that leaves it in range happens or is heard.
+#[tactic(auto, unfolding(books::specs::Books::holding_effect))]
 pub fn holding_effect(e: Event, row: &mut [u8], o: usize)
     requires { (o < length row.old) × (holding_fits (kind_of e) (get_or row.old o 0) ≡ true) }
     ensures { row.new ≡ holding_effect (kind_of e) o row.old }

@@ -1,14 +1,9 @@
--- `counters::holding_effect`: an s leaves the row; else the holding after the event, which is in range, is what is written.
+-- `counters::holding_effect`: the holding after an event that is no s, which is in range, is what is written.
 -- Assumes nothing.
 use Rattle.std.proofs.Common.{rules, get_or}
-use Rattle.books.specs.Books.{holding_effect}
 use Rattle.counters.specs.Counters.{kind_of}
 use Rattle.counters.proofs.Rows.{holding_now, holding_heard}
 use Rattle.counters.proofs.holding_effect.Goals as goal
-
-pub returns-in-Send : goal.returns-in-Send
-unfolding holding_effect
-returns-in-Send c = rw c.in-Send.is
 
 pub returns-in-Now : goal.returns-in-Now
 returns-in-Now c =

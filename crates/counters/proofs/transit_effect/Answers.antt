@@ -1,18 +1,9 @@
--- `counters::transit_effect`: + and - leave the row; else the transit after the event, which is in range, is what is written.
+-- `counters::transit_effect`: the transit after an s or an r, which is in range, is what is written.
 -- Assumes nothing.
 use Rattle.std.proofs.Common.{rules, ◌∙◌}
-use Rattle.books.specs.Books.{transit_effect}
 use Rattle.counters.specs.Counters.{kind_of}
 use Rattle.counters.proofs.Rows.{transit-now, transit-heard}
 use Rattle.counters.proofs.transit_effect.Goals as goal
-
-pub returns-in-Create : goal.returns-in-Create
-unfolding transit_effect
-returns-in-Create c = rw c.in-Create.is
-
-pub returns-in-Delete : goal.returns-in-Delete
-unfolding transit_effect
-returns-in-Delete c = rw c.in-Delete.is
 
 pub returns-in-Now : goal.returns-in-Now
 returns-in-Now c =
