@@ -1,3 +1,2 @@
-#![tactic(auto)]
-
 // Document 01's P cases, proved over the definitions. Nothing here runs.
+#![tactic(auto)]

@@ -1,3 +1,2 @@
-#![tactic(auto)]
-
 // One lane as definitions and laws; crate cursors has its code. Nothing here runs: see specs/.
+#![tactic(auto)]

@@ -1,3 +1,2 @@
-#![tactic(auto)]
-
 // Document 004 as definitions. Nothing here runs: see specs/.
+#![tactic(auto)]
