@@ -5,174 +5,181 @@ ghost use Rattle.std.specs.Prelude.{◌≡◌, true, ◌+◌, ◌*◌, ◌≤◌
 ghost use Rattle.paper.specs.Paper.{send, receive, create, delete};
 ghost use Rattle.books.specs.Books.{transit_zero, transit_top, transit_at, set_transit, transit_effect, holding_effect};
 ghost use Rattle.books.specs.Fits.{transit_fits, holding_fits};
-ghost use Rattle.counters.specs.Counters.{Ports, TransitIn, kind_of, counted, stored_as, in_range, within, transit_step, holding_step};
+ghost use Rattle.counters.specs.Counters.{TransitIn, kind_of, counted, stored_as, within, transit_step, holding_step};
 
-// Table 1 of document 004: the events s, r, + and -.
+use std::marker::Model;
+
+// Table 1 of document 004: the events s, r, + and -, with document 01's numbers for them.
 #[derive(Clone, Copy)]
 pub enum Event {
-    Send,
-    Receive,
-    Create,
-    Delete,
+    Send = 0,
+    Receive = 1,
+    Create = 2,
+    Delete = 3,
 }
 
 // The holding of an object at a port.
 #[derive(Clone, Copy)]
 pub struct Holding(pub u8);
 
-// The heard transit of an object to a port: signed, and no Holding.
-#[derive(Clone, Copy)]
-pub struct Transit(pub i16);
-
-// A counter after an event, or out of range.
-#[derive(Clone, Copy)]
-pub enum HoldingStep {
-    Now(Holding),
-    Out,
-}
-
-#[derive(Clone, Copy)]
-pub enum TransitStep {
-    Now(Transit),
-    Out,
-}
-
 impl Holding {
-    pub fn raised(self) -> HoldingStep
+    // One more, or none where that is out of range.
+    pub fn raised(self) -> Option<Holding>
         ensures { result ≡ holding_step create self.0 }
     {
-        let x = self.0;
-        if x < 200 {
-            HoldingStep::Now(Holding(x + 1))
-        } else {
-            HoldingStep::Out
-        }
+        (self.0 < 200).then(|| Holding(self.0 + 1))
     }
 
-    pub fn lowered(self) -> HoldingStep
+    // One less, or none where that is out of range.
+    pub fn lowered(self) -> Option<Holding>
         ensures { result ≡ holding_step delete self.0 }
     {
-        let x = self.0;
-        if 0 < x {
-            HoldingStep::Now(Holding(x - 1))
-        } else {
-            HoldingStep::Out
-        }
+        self.0.checked_sub(1).map(Holding)
     }
 
     // After an event that happens or is heard.
-    pub fn after(self, e: Event) -> HoldingStep
+    pub fn after(self, e: Event) -> Option<Holding>
         ensures { result ≡ holding_step (kind_of e) self.0 }
     {
         match e {
-            Event::Send => HoldingStep::Now(self),
-            Event::Receive => self.raised(),
-            Event::Create => self.raised(),
+            Event::Send => Some(self),
+            Event::Receive | Event::Create => self.raised(),
             Event::Delete => self.lowered(),
         }
     }
 }
 
-// What a transit is stored plus.
-fn transit_zero(n: usize) -> i16
-    requires { Ports n }
-    ensures { result ≡ pos (transit_zero n) }
-{
-    (32 * (n - 1)) as i16
+// A number of ports that the counters' types have room for.
+#[derive(Clone, Copy)]
+pub struct Ports(pub usize);
+
+// A clause sees the number.
+impl Model for Ports {
+    ghost use Rattle.std.specs.Prelude.{ℕ};
+    ghost use Rattle.counters.specs.Counters.{Ports};
+
+    ghost Value = { ℕ };
+
+    ghost view = { λ p. p.0 };
+
+    ghost invariant = { λ p. Ports p.0 };
+
+    ghost inverse = { λ n. record { 0 = n } };
 }
 
-// The count that a stored number stands for.
-fn counted(k: u16, n: usize) -> i16
-    requires { Ports n × (k ≤ transit_top n) }
-    ensures { result ≡ counted n k }
-{
-    (k as i16) - transit_zero(n)
+impl Ports {
+    // What a transit is stored plus.
+    fn zero(self) -> i16
+        ensures { result ≡ pos (transit_zero self) }
+    {
+        (32 * (self.0 - 1)) as i16
+    }
+
+    // The greatest number that is stored.
+    fn top(self) -> u16
+        ensures { result ≡ transit_top self }
+    {
+        (32 * (self.0 - 1) + 16 * (self.0 + 1)) as u16
+    }
+
+    // The count that a stored number stands for.
+    fn counted(self, k: u16) -> i16
+        requires { k ≤ transit_top self }
+        ensures { result ≡ counted self k }
+    {
+        (k as i16) - self.zero()
+    }
+
+    // The transit of count z, or none where z is out of range.
+    fn within(self, z: i16) -> Option<Transit>
+        ensures { result ≡ within self z }
+    {
+        if z < self.counted(0) || self.counted(self.top()) < z {
+            return None;
+        }
+        Some(Transit(z, self))
+    }
 }
 
-// The greatest number that is stored.
-fn transit_top(n: usize) -> u16
-    requires { Ports n }
-    ensures { result ≡ transit_top n }
-{
-    (32 * (n - 1) + 16 * (n + 1)) as u16
+// The heard transit of an object to a port, of so many ports: signed, in the range that they give, and no Holding. The two counters
+// stay apart, here and above: document 01 asks for two types, and range, bytes and row of Table 3 differ, not a type alone.
+#[derive(Clone, Copy)]
+pub struct Transit(pub i16, pub Ports);
+
+// A clause sees the number of ports and the count.
+impl Model for Transit {
+    ghost use Rattle.std.specs.Prelude.{◌≡◌, true};
+    ghost use Rattle.counters.specs.Counters.{Count, in_range};
+
+    ghost Value = { Count };
+
+    ghost view = { λ t. record { ports = t.1; count = t.0 } };
+
+    ghost invariant = { λ t. in_range t.1 t.0 ≡ true };
+
+    ghost inverse = { λ c. record { 0 = c.count; 1 = c.ports } };
 }
 
 impl Transit {
-    // The count z, or out of range.
-    fn within(z: i16, n: usize) -> TransitStep
-        requires { Ports n }
-        ensures { result ≡ within n z }
+    // One more, or none where that is out of range.
+    pub fn raised(self) -> Option<Transit>
+        ensures { result ≡ transit_step send self }
     {
-        if z < counted(0, n) {
-            return TransitStep::Out;
-        }
-        if counted(transit_top(n), n) < z {
-            return TransitStep::Out;
-        }
-        TransitStep::Now(Transit(z))
+        self.1.within(self.0 + 1)
     }
 
-    pub fn raised(self, n: usize) -> TransitStep
-        requires { Ports n × (in_range n self.0 ≡ true) }
-        ensures { result ≡ transit_step n send self.0 }
+    // One less, or none where that is out of range.
+    pub fn lowered(self) -> Option<Transit>
+        ensures { result ≡ transit_step receive self }
     {
-        let z = self.0;
-        Transit::within(z + 1, n)
+        self.1.within(self.0 - 1)
     }
 
-    pub fn lowered(self, n: usize) -> TransitStep
-        requires { Ports n × (in_range n self.0 ≡ true) }
-        ensures { result ≡ transit_step n receive self.0 }
-    {
-        let z = self.0;
-        Transit::within(z - 1, n)
-    }
     // After an event that is heard.
-    pub fn after(self, e: Event, n: usize) -> TransitStep
-        requires { Ports n × (in_range n self.0 ≡ true) }
-        ensures { result ≡ transit_step n (kind_of e) self.0 }
+    pub fn after(self, e: Event) -> Option<Transit>
+        ensures { result ≡ transit_step (kind_of e) self }
     {
         match e {
-            Event::Send => self.raised(n),
-            Event::Receive => self.lowered(n),
-            Event::Create => TransitStep::Now(self),
-            Event::Delete => TransitStep::Now(self),
+            Event::Send => self.raised(),
+            Event::Receive => self.lowered(),
+            Event::Create | Event::Delete => Some(self),
         }
     }
 
-    // What the store holds for a count.
-    fn stored(self, n: usize) -> u16
-        requires { Ports n × (in_range n self.0 ≡ true) }
-        ensures { result ≡ stored_as n self.0 }
+    // What the store holds for it.
+    fn stored(self) -> u16
+        ensures { result ≡ stored_as self.ports self.count }
     {
-        let z = self.0;
-        (z + transit_zero(n)) as u16
+        (self.0 + self.1.zero()) as u16
     }
 
     // o's transit in a port's row, read and written.
     pub fn read(row: &[u8], o: usize, n: usize) -> Transit
         requires { TransitIn n o row.now }
-        ensures { result.0 ≡ counted n (transit_at o row.now) }
+        ensures { result ≡ record { ports = n; count = counted n (transit_at o row.now) } }
     {
-        Transit(counted(transit_at(row, o), n))
+        let ports = Ports(n);
+        Transit(ports.counted(transit_at(row, o)), ports)
     }
 
-    pub fn write(self, row: &mut [u8], o: usize, n: usize)
-        requires { Ports n × ((in_range n self.0 ≡ true) × (2 * o + 1 < length row.old)) }
-        ensures { row.new ≡ set_transit o (stored_as n self.0) row.old }
+    #[tactic(auto, unfolding(books::specs::Books::set_transit))]
+    pub fn write(self, row: &mut [u8], o: usize)
+        requires { 2 * o + 1 < length row.old }
+        ensures { row.new ≡ set_transit o (stored_as self.ports self.count) row.old }
     {
-        let k = self.stored(n);
-        row[2 * o] = (k % 256) as u8;
-        row[2 * o + 1] = (k / 256 % 256) as u8;
+        let [low, high] = self.stored().to_le_bytes();
+        row[2 * o] = low;
+        row[2 * o + 1] = high;
     }
 }
 
-// o's transit in a port's row as it is stored.
+// o's transit in a port's row as it is stored. A row and a place in it stay a slice and an index, lent to be read or to be written: a
+// type would be two, and no plainer.
 pub fn transit_at(row: &[u8], o: usize) -> u16
     requires { 2 * o + 1 < length row.now }
     ensures { result ≡ transit_at o row.now }
 {
-    (row[2 * o] as u16) + (row[2 * o + 1] as u16) * 256
+    u16::from_le_bytes([row[2 * o], row[2 * o + 1]])
 }
 
 // Does an event, heard, leave o's transit in range?
@@ -180,28 +187,21 @@ pub fn transit_fits(e: Event, row: &[u8], o: usize, n: usize) -> bool
     requires { TransitIn n o row.now }
     ensures { result ≡ transit_fits n (kind_of e) (transit_at o row.now) }
 {
-    let r = Transit::read(row, o, n).after(e, n);
-    match r {
-        TransitStep::Now(_) => true,
-        TransitStep::Out => false,
-    }
+    Transit::read(row, o, n).after(e).is_some()
 }
 
 // An event that leaves it in range is heard.
-#[tactic(auto, unfolding(books::specs::Books::transit_effect))]
+#[tactic(auto, unfolding(books::specs::Books::transit_effect, books::specs::Books::set_transit))]
 pub fn transit_effect(e: Event, row: &mut [u8], o: usize, n: usize)
     requires { TransitIn n o row.old × (transit_fits n (kind_of e) (transit_at o row.old) ≡ true) }
     ensures { row.new ≡ transit_effect (kind_of e) o row.old }
 {
-    if let Event::Create = e {
+    // + and - write no byte
+    if matches!(e, Event::Create | Event::Delete) {
         return;
     }
-    if let Event::Delete = e {
-        return;
-    }
-    let r = Transit::read(row, o, n).after(e, n);
-    if let TransitStep::Now(t) = r {
-        t.write(row, o, n);
+    if let Some(t) = Transit::read(row, o, n).after(e) {
+        t.write(row, o);
     }
 }
 
@@ -218,11 +218,7 @@ pub fn holding_fits(e: Event, row: &[u8], o: usize) -> bool
     requires { o < length row.now }
     ensures { result ≡ holding_fits (kind_of e) (get_or row.now o 0) }
 {
-    let r = Holding(row[o]).after(e);
-    match r {
-        HoldingStep::Now(_) => true,
-        HoldingStep::Out => false,
-    }
+    Holding(row[o]).after(e).is_some()
 }
 
 // An event that leaves it in range happens or is heard.
@@ -231,12 +227,11 @@ pub fn holding_effect(e: Event, row: &mut [u8], o: usize)
     requires { (o < length row.old) × (holding_fits (kind_of e) (get_or row.old o 0) ≡ true) }
     ensures { row.new ≡ holding_effect (kind_of e) o row.old }
 {
-    if let Event::Send = e {
+    // an s writes no byte
+    if matches!(e, Event::Send) {
         return;
     }
-    let r = Holding(row[o]).after(e);
-    if let HoldingStep::Now(h) = r {
-        let x = h.0;
-        row[o] = x;
+    if let Some(h) = Holding(row[o]).after(e) {
+        row[o] = h.0;
     }
 }
