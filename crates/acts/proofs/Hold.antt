@@ -7,7 +7,12 @@ use Prim.Native.Nat.{ℕ, ◌≤◌, ◌<◌}
 use native.Mathlib.Omega.{arith}
 use Rattle.books.specs.Books.{object_limit}
 use Rattle.store.specs.Store.{object_byte, held_of}
-use Rattle.machine.specs.Acts.{Act, act, HOLD, gives}
+use Rattle.std.specs.Result.{IsErrAnd}
+use Rattle.std.specs.Prelude.{Result, Ok, Err}
+use Rattle.acts.specs.declared.Refusal.{Refusal}
+use Rattle.acts.specs.declared.Refusal.TheVariants.{NoSuchObject}
+use Rattle.acts.specs.Replies.{numbers}
+use Rattle.machine.specs.Acts.{Act, Outcome, act, HOLD, gives}
 use Rattle.machine.specs.Effects.{after, value_of}
 use Rattle.machine.specs.Machine.{rule, does}
 use Rattle.acts.specs.Ready.{Ready}
@@ -26,9 +31,14 @@ module _ (n A o B : ℕ) (s : List ℕ) (ready : Ready n s) where
   hold_3 h = refuses n a s ready.formed (2 ∷ []) (4 ∷ 5 ∷ []) 3 refl (known, tt) (port_high n a s refl h) (λ q. omega arith) (λ q. omega arith)
 
   module _ (port : A < n) where
-    pub hold_4 : object_limit ≤ o → gives 4 0 s ≡ does n a s
+    hold_4 : object_limit ≤ o → gives 4 0 s ≡ does n a s
     hold_4 h =
         refuses n a s ready.formed (2 ∷ 3 ∷ []) (5 ∷ []) 4 refl (known, (port-low n a s refl refl port, tt)) (object_high n a s h) (λ q. omega arith) (λ q. omega arith)
+
+    -- as the code has it: what is answered is an error, which is that one
+    pub unnumbered : object_limit ≤ o → (r : Result ℕ Refusal) → IsErrAnd r (λ e. e ≡ NoSuchObject) → ◌≡◌ {A = Outcome} (record { answer = numbers r; bytes = s }) (does n a s)
+    unnumbered h (Err e) q = rw q (hold_4 h)
+    unnumbered h (Ok v) q = absurd q
 
     module _ (object : o < object_limit) where
       pub hold_5 : object_byte n o s ≡ 0 → gives 5 0 s ≡ does n a s

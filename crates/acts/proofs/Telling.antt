@@ -2,7 +2,7 @@
 -- store.
 -- Assumes nothing.
 use mathlib.Core.Path.{◌≡◌, refl, ap, ◌∙◌}
-use mathlib.Core.Bool.{Bool, true, false, cond}
+use mathlib.Core.Bool.{true, false, cond}
 use mathlib.Core.List.{List}
 use Prim.Native.Nat.{ℕ, ◌+◌, ◌<◌}
 use native.Mathlib.Omega.{arith}
@@ -22,8 +22,8 @@ use Rattle.store.proofs.Frame.{inside, port-inside, lane_inside, read-long, leng
 use Rattle.store.proofs.Formed.{Formed, formed_means}
 use Rattle.stretches.specs.Stretches.{Few}
 use Rattle.machine.specs.Effects.{hears, tells, happens}
-use Rattle.machine.specs.Fits.{hears_fits, happens_fits}
-use Rattle.acts.specs.Told.{Hearable, Placed, Tellable, Possible}
+use Rattle.machine.specs.Fits.{happens_fits}
+use Rattle.acts.specs.Told.{Placed, Tellable, Possible}
 use Rattle.machine.proofs.Kept.{Proper, is_send}
 
 module _ (n : ℕ) (e : Event) (s : List ℕ) where
@@ -44,36 +44,7 @@ module _ (n : ℕ) (e : Event) (s : List ℕ) where
   unfolding happens
   happens_is t q u r = r ∙ ap (tells n e) q
 
-  -- what fits, by the tests that the code makes in turn
-  pub hears_no : holding_fits e.kind (heard_of n e.names e.object s) ≡ false → false ≡ hears_fits n e s
-  hears_no q = rw q
-
-  pub hears_yes : holding_fits e.kind (heard_of n e.names e.object s) ≡ true → (r : Bool)
-      → r ≡ transit_fits n e.kind (transit_of n e.names e.object s) → r ≡ hears_fits n e s
-  hears_yes q r w = rw q w
-
-  pub happens_no : holding_fits e.kind (held_of n e.at e.object s) ≡ false → false ≡ happens_fits n e s
-  happens_no q = rw q
-
-  pub happens-away : holding_fits e.kind (held_of n e.at e.object s) ≡ true → ¬ (b ≡ e.at + 1) → true ≡ happens_fits n e s
-  happens-away q d = rw (q, ne_eqb b (e.at + 1) d)
-
-  pub happens-near : holding_fits e.kind (held_of n e.at e.object s) ≡ true → b ≡ e.at + 1 → (r : Bool)
-      → r ≡ transit_fits n e.kind (transit_of n e.names e.object s) → r ≡ happens_fits n e s
-  happens-near q d r w = rw (q, eq-eqb b (e.at + 1) d) w
-
   module _ (h : Tellable n e s) where
-    -- at the home it can be heard
-    pub hearable : b ≡ e.at + 1 → Hearable n e s
-    hearable q = record {
-      some = omega (arith, h.placed.named);
-      lent = h.placed.lent;
-      named = h.placed.named;
-      thing = h.placed.thing;
-      range = h.placed.range;
-      fits = h.near q;
-    }
-
     -- its home is a port
     pub home_low : home n e.object s < n
     home_low = omega (arith, h.homed, h.used, h.placed.port)

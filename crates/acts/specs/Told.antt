@@ -15,7 +15,7 @@ use Rattle.acts.specs.declared.events.Happening.{Happening}
 
 -- the event that the code means
 abbrev pub told : Happening → Event
-told e = record { kind = kind_of e.kind; object = e.object; at = e.at; names = e.names }
+told e = record { kind = kind_of e.kind; object = e.object.number; at = e.at; names = e.names }
 
 -- the counts that an event changes when it is heard are there, and stay in range
 pub record Hearable (n : ℕ) (e : Event) (s : List ℕ) : Type 0 where

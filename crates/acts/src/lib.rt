@@ -4,11 +4,35 @@
 pub mod events;
 pub mod reads;
 
-// What an act answers: taken, with its value; refused, with the refusal number; or refused because a port stands against
-// retiring, with that port.
-#[derive(Clone, Copy)]
-pub enum Reply {
-    Taken(u32),
-    Refused(u32),
-    Against(u32),
+use stretches::stretch::NoObject;
+
+// Why an act is refused, in the order of document 01's numbers. A port that stands against retiring is named.
+#[derive(Clone, Copy, Debug, PartialEq, Eq)]
+pub enum Refusal {
+    NotWellFormed,
+    NoSuchAct,
+    NoSuchPort,
+    NoSuchObject,
+    NotInUse,
+    SamePort,
+    NotHeld,
+    HoldingFull,
+    LaneEmpty,
+    PointersFull,
+    ReportsFull,
+    AllInUse,
+    StandsAgainst(u32),
+    WouldBreak,
+}
+
+// A number that is no object's is refused as one.
+impl From<NoObject> for Refusal {
+    ghost use Rattle.std.specs.Prelude.{◌≡◌};
+    ghost use Rattle.acts.specs.declared.Refusal.TheVariants.{NoSuchObject};
+
+    ghost from_gives = { λ _ r. r ≡ NoSuchObject };
+
+    fn from(_: NoObject) -> Refusal {
+        Refusal::NoSuchObject
+    }
 }

@@ -5,21 +5,21 @@ ghost use Rattle.acts.specs.Replies.{numbers};
 ghost use Rattle.machine.specs.Machine.{does};
 ghost use Rattle.acts.specs.Ready.{Ready};
 
-use crate::Reply;
+use crate::Refusal;
+use stretches::reads::Store;
+use stretches::stretch::{Held, Object};
 
 // HOLD A o: port A's true holding of o.
-pub fn hold(store: &[u8], n: usize, a: u32, o: u32, b: u32) -> Reply
-    requires { Ready n store.now }
-    ensures { record { answer = numbers result; bytes = store.now } ≡ does n (act HOLD a o b) store.now }
+pub fn hold(store: Store<'_>, a: u32, o: u32, b: u32) -> Result<u32, Refusal>
+    requires { Ready store.ports store.bytes.now }
+    ensures { record { answer = numbers result; bytes = store.entry.bytes.now } ≡ does store.entry.ports (act HOLD a o b) store.entry.bytes.now }
 {
-    if n as u32 <= a {
-        return Reply::Refused(3);
+    if store.ports as u32 <= a {
+        return Err(Refusal::NoSuchPort);
     }
-    if 64 <= o {
-        return Reply::Refused(4);
+    let o = Object::try_from(o)?;
+    if store.object_byte(o) == 0 {
+        return Err(Refusal::NotInUse);
     }
-    if stretches::object_byte(store, n, o as usize) == 0 {
-        return Reply::Refused(5);
-    }
-    Reply::Taken(stretches::held_of(store, n, a as usize, o as usize) as u32)
+    Ok(store.holding_of(Held { port: a as usize }, o) as u32)
 }

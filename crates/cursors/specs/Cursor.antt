@@ -1,6 +1,6 @@
 -- A lane's cursor: how many entries the lane has, its oldest being entry 0; and what the code asks of a lane. An entry is w bytes.
 -- Assumes nothing.
-use Rattle.std.specs.Prelude.{Bool, not, List, [], ◌∷◌, ℕ, ◌+◌, ◌*◌, ◌%◌, ◌≤◌, ◌<◌, ◌≡◌, eqb, length, get_or, take}
+use Rattle.std.specs.Prelude.{Bool, not, List, ℕ, ◌+◌, ◌*◌, ◌%◌, ◌≤◌, ◌<◌, ◌≡◌, eqb, length, get_or}
 use Rattle.books.specs.Numbers.{every}
 use Rattle.books.specs.Books.{object_limit}
 use Rattle.cursors.specs.declared.Cursor.{Cursor}
@@ -10,10 +10,6 @@ use Rattle.lanes.specs.Lane.{pointer_width, report_width, count, entry}
 -- the cursor of a lane
 abbrev pub cursor_of : List ℕ → Cursor
 cursor_of l = record { len = count l }
-
--- an entry of w bytes, of which there are one or two: x, and on a report lane y
-abbrev pub entry_of : ℕ → ℕ → ℕ → List ℕ
-entry_of w x y = take w (x ∷ y ∷ [])
 
 -- the oldest entry's bytes, the second 0 on a pointer lane, with the cursor
 abbrev pub front_of : ℕ → List ℕ → Front

@@ -1,11 +1,11 @@
 // One lane of the lent store, lent as its own part of it. Its entries are w bytes: one on a pointer lane, two on a report lane.
 #![tactic(auto)]
 
-ghost use Rattle.std.specs.Prelude.{◌≡◌, ◌+◌, ◌-◌, ◌*◌, ◌≤◌, ◌<◌, length, drop};
-ghost use Rattle.std.proofs.lemmas.List.Edits.{sets};
-ghost use Rattle.std.proofs.Math.Seq.{paste};
-ghost use Rattle.lanes.specs.Lane.{pointer_places, pointer_width, report_width, count, added, taken, pointers_to};
-ghost use Rattle.cursors.specs.Cursor.{cursor_of, entry_of, front_of, unnamed, Entered, Roomy};
+ghost use Rattle.std.specs.Prelude.{◌≡◌, ◌+◌, ◌*◌, ◌≤◌, ◌<◌, length};
+ghost use Rattle.lanes.specs.Lane.{pointer_places, pointer_width, count, added, taken, pointers_to};
+ghost use Rattle.cursors.specs.Cursor.{cursor_of, front_of, unnamed, Entered, Roomy};
+
+const OBJECTS: usize = 64; // an object's number is a report's first byte modulo this
 
 // How many entries a lane has: the oldest stands first, the next free place is past so many.
 #[derive(Clone, Copy)]
@@ -13,7 +13,8 @@ pub struct Cursor {
     pub len: usize,
 }
 
-// The oldest entry, with the cursor.
+// The oldest entry, with the cursor: by value, as the lane is written next. A pointer's second byte is given as 0, not as None: the
+// contract of `front` says so, and the edit front_second_1.
 #[derive(Clone, Copy)]
 pub struct Front {
     pub first: u8,
@@ -21,7 +22,7 @@ pub struct Front {
     pub cursor: Cursor,
 }
 
-// How many entries a lane has.
+// How many entries a lane has. The width w stays a number, as a const parameter would ask more of callers.
 pub fn count(lane: &[u8]) -> u8
     requires { 0 < length lane.now }
     ensures { result ≡ count lane.now }
@@ -30,6 +31,7 @@ pub fn count(lane: &[u8]) -> u8
 }
 
 impl Cursor {
+    // The cursor of a lane.
     pub fn of(lane: &[u8]) -> Cursor
         requires { 0 < length lane.now }
         ensures { result ≡ cursor_of lane.now }
@@ -39,86 +41,59 @@ impl Cursor {
         }
     }
 
-    // The oldest entry.
+    // The oldest entry; a pointer's second byte is given as 0.
     pub fn front(self, lane: &[u8], w: usize) -> Front
         requires { Entered w self lane.now }
         ensures { result ≡ front_of w lane.now }
     {
-        if w == 2 {
-            return Front {
-                first: lane[1],
-                second: lane[2],
-                cursor: self,
-            };
-        }
+        let entry = &lane[1..1 + w];
         Front {
-            first: lane[1],
-            second: 0,
+            first: entry[0],
+            second: entry.get(1).copied().unwrap_or(0),
             cursor: self,
         }
     }
 
-    // The oldest entry is taken.
+    // The oldest entry is taken: the others move up by its place, and the last place becomes zero.
+    #[tactic(auto, using(crate::proofs::Bytes::taken_written))]
     pub fn taken(self, lane: &mut [u8], w: usize) -> Cursor
         requires { Entered w self lane.old }
-        ensures { (result ≡ cursor_of lane.new) × (lane.new ≡ taken w lane.old) }
+        ensures cursor { result ≡ cursor_of lane.new }
+        ensures lane { lane.new ≡ taken w lane.old }
     {
         let left = self.len - 1;
         let end = lane.len() - w;
-        shift(lane, w);
-        put(lane, end, w, 0, 0);
+        lane.copy_within(1 + w.., 1);
+        lane[end..].fill(0);
         lane[0] = left as u8;
         Cursor { len: left }
     }
 
     // An entry is added after the newest.
-    pub fn added(self, lane: &mut [u8], w: usize, first: u8, second: u8) -> Cursor
-        requires { Roomy w self lane.old }
-        ensures { (result ≡ cursor_of lane.new) × (lane.new ≡ added w (entry_of w first second) lane.old) }
+    #[tactic(auto, using(crate::proofs::Bytes::added_written))]
+    pub fn added(self, lane: &mut [u8], entry: &[u8]) -> Cursor
+        requires { Roomy (length entry.now) self lane.old }
+        ensures cursor { result ≡ cursor_of lane.new }
+        ensures lane { lane.new ≡ added (length entry.now) entry.now lane.old }
     {
+        let w = entry.len();
         let n = self.len;
         let at = 1 + w * n;
-        put(lane, at, w, first, second);
+        lane[at..at + w].copy_from_slice(entry);
         lane[0] = (n + 1) as u8;
         Cursor { len: n + 1 }
     }
 }
 
-// The bytes of an entry are written at a place.
-fn put(lane: &mut [u8], at: usize, w: usize, first: u8, second: u8)
-    requires { (pointer_width ≤ w) × (w ≤ report_width) × (at + w ≤ length lane.old) }
-    ensures { lane.new ≡ sets lane.old at (entry_of w first second) }
-{
-    lane[at] = first;
-    if w == 2 {
-        lane[at + 1] = second;
-    }
-}
-
-// Every entry moves up by a place; the last place stays.
-fn shift(lane: &mut [u8], w: usize)
-    requires { w < length lane.old }
-    ensures { lane.new ≡ paste lane.old 1 (drop (1 + w) lane.old) (length lane.old - (1 + w)) }
-{
-    let count = lane.len() - w - 1;
-    for j in 0..count {
-        lane[1 + j] = lane[1 + w + j];
-    }
-}
-
 // How many entries of a pointer lane are o.
+#[tactic(auto, using(crate::proofs::Bytes::counted), unfolding(lanes::specs::Lane::pointers_to))]
 pub fn pointers_to(lane: &[u8], o: u8) -> usize
     requires { (length lane.now ≡ 1 + pointer_width * pointer_places) × (count lane.now ≤ pointer_places) }
-    ensures { (result ≡ pointers_to o lane.now) × (result ≤ pointer_places) }
+    ensures count { result ≡ pointers_to o lane.now }
+    ensures most { result ≤ pointer_places }
 {
     let n = lane[0] as usize;
-    let mut t: usize = 0;
-    for i in 0..n {
-        if lane[1 + i] == o {
-            t += 1;
-        }
-    }
-    t
+    lane[1..1 + n].iter().filter(|x| **x == o).count()
 }
 
 // Is no entry about o?
@@ -127,14 +102,5 @@ pub fn unnamed(lane: &[u8], w: usize, o: usize) -> bool
     ensures { result ≡ unnamed w o lane.now }
 {
     let n = lane[0] as usize;
-    let mut i = 0;
-    let mut at = 1;
-    while i < n {
-        if lane[at] as usize % 64 == o {
-            return false;
-        }
-        i += 1;
-        at += w;
-    }
-    true
+    (0..n).all(|i| lane[1 + w * i] as usize % OBJECTS != o)
 }

@@ -1,7 +1,7 @@
 -- What the code that reads and writes the store by stretches asks of it. n is the number of ports.
 -- Assumes nothing.
 use Rattle.std.specs.Prelude.{◌≡◌, List, ℕ, ◌+◌, ◌*◌, ◌≤◌, ◌<◌, length}
-use Rattle.lanes.specs.Lane.{pointer_places, count}
+use Rattle.lanes.specs.Lane.{pointer_places, report_places, pointer_width, report_width, count}
 use Rattle.store.specs.Layout.{Stretch, size, long, place, pointers, read}
 
 -- a number of ports for which every place of the store is far from a word's limit
@@ -18,6 +18,14 @@ pub record Numbered (n a b r : ℕ) : Type 0 where
   pub number : r ≡ n * a + b
   pub low : r < n * n
   pub all : n * n ≤ 16 * 16
+
+-- a lane has a length byte and then its places, each of one byte or two, and a byte counts them
+pub record LaneSized (bytes width places : ℕ) : Type 0 where
+  pub whole : bytes ≡ 1 + width * places
+  pub least : pointer_width ≤ width
+  pub most : width ≤ report_width
+  pub some : 0 < places
+  pub few : places ≤ report_places
 
 -- stretch c begins at byte r, and ends within the store
 pub record Begins (n : ℕ) (c : Stretch) (r : ℕ) : Type 0 where

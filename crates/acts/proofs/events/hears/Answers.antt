@@ -1,10 +1,14 @@
 -- `acts::events::hears`: the transit first, then the holding.
 -- Assumes nothing.
+use Rattle.std.proofs.Common.{◌∙◌}
 use Rattle.acts.proofs.Heard.{still_holding, heard_is}
 use Rattle.acts.proofs.events.hears.Goals as goal
 
-pub change_heard-requires-clause-fits : goal.change_heard-requires-clause-fits
-change_heard-requires-clause-fits c = still_holding _ _ _ c.requires _ c.change_transit.ensures
+pub change_holding-requires-clause-fits : goal.change_holding-requires-clause-fits
+change_holding-requires-clause-fits c = let w = c.change_transit.ensures in rw w.ports (still_holding _ _ _ c.requires _ w.bytes)
 
 pub returns : goal.returns
-returns c = heard_is _ _ _ c.requires _ c.change_transit.ensures _ c.change_heard.ensures
+returns c =
+    let w = c.change_transit.ensures in
+    let v = c.change_holding.ensures in
+    record { ports = v.ports ∙ w.ports; bytes = heard_is _ _ _ c.requires _ w.bytes _ (rw w.ports at v.bytes) }

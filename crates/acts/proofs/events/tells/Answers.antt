@@ -4,10 +4,15 @@ use Rattle.std.proofs.Common.{sym, ◌∙◌}
 use Rattle.acts.proofs.Telling.{tells-near, tells-away}
 use Rattle.acts.proofs.events.tells.Goals as goal
 
-pub returns-then-b-a : goal.returns-then-b-a
-returns-then-b-a c = tells-near _ _ _ (sym c.object_byte-b.ensures ∙ c.if-b-a.true) _ c.hears.ensures
+pub returns-then-b-e : goal.returns-then-b-e
+returns-then-b-e c =
+    let q = rw (c.shared.ensures.ports, c.shared.ensures.bytes) at c.object_byte-b.ensures in
+    record { ports = c.hears.ensures.ports; bytes = tells-near _ _ _ (sym q ∙ c.if-b-e.true) _ c.hears.ensures.bytes }
 
-pub returns : goal.returns
-returns c =
-    let q = c.object_byte-b.ensures in
-    tells-away _ _ _ (λ d. c.if-b-a.false (q ∙ d)) _ (rw (← q, ← c.report_object-first.ensures, ← c.report_port-second.ensures) c.add_report.ensures)
+pub returns-else-b-e : goal.returns-else-b-e
+returns-else-b-e c =
+    let q = rw (c.shared.ensures.ports, c.shared.ensures.bytes) at c.object_byte-b.ensures in
+    record {
+      ports = c.add_report.ensures.ports;
+      bytes = tells-away _ _ _ (λ d. c.if-b-e.false (q ∙ d)) _ (rw (← q, ← c.report.ensures) c.add_report.ensures.bytes);
+    }

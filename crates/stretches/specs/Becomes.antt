@@ -1,0 +1,9 @@
+-- What a function that writes a lent store leaves of it.
+-- Assumes nothing.
+use Rattle.std.specs.Prelude.{◌≡◌, List, ℕ}
+use Rattle.stretches.specs.declared.writes.StoreMut.{StoreMut}
+
+-- a store becomes the bytes s, and its number of ports stays
+pub record Becomes (old new : StoreMut) (s : List ℕ) : Type 0 where
+  pub ports : new.ports ≡ old.ports
+  pub bytes : new.bytes.now ≡ s
