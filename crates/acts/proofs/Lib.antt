@@ -1,4 +1,5 @@
 pub mod Lent
 pub mod Heard
 pub mod Hold
+pub mod Homes
 pub mod Telling

@@ -8,7 +8,7 @@ ghost use Rattle.acts.specs.Told.{told, Hearable, Placed, Tellable, Possible};
 
 use counters::Event;
 use stretches::reads::Store;
-use stretches::stretch::{Heard, Held, Object, Reports, Transits};
+use stretches::stretch::{Heard, Held, OBJECTS, Object, Reports, Transits};
 use stretches::writes::StoreMut;
 
 // An event about an object: what it is, where it happens, and the port that it names.
@@ -29,7 +29,7 @@ fn report(e: Happening) -> [u8; 2]
         Event::Send => e.names as u8,
         _ => 0,
     };
-    [(e.object.number + 64 * e.kind as usize) as u8, port]
+    [(e.object.number + OBJECTS * e.kind as usize) as u8, port]
 }
 
 // An event is heard in the books.
@@ -46,14 +46,14 @@ pub fn tells(store: &mut StoreMut<'_>, e: Happening)
     requires { Tellable store.old.ports (told e) store.old.bytes.now }
     ensures { Becomes store.old store.new (tells store.old.ports (told e) store.old.bytes.now) }
 {
-    let b = store.shared().object_byte(e.object) as usize;
-    if b == e.at + 1 {
+    let home = store.shared().home(e.object).unwrap();
+    if home == e.at {
         hears(store, e);
     } else {
         store.add_report(
             Reports {
                 from: e.at,
-                to: b - 1,
+                to: home,
             },
             report(e),
         );
@@ -84,6 +84,6 @@ pub fn happens_fits(store: Store<'_>, e: Happening) -> bool
     ensures { result ≡ happens_fits store.entry.ports (told e) store.entry.bytes.now }
 {
     store.holding_fits(Held { port: e.at }, e.object, e.kind)
-        && (store.object_byte(e.object) as usize != e.at + 1
+        && (store.home(e.object) != Some(e.at)
             || store.transit_fits(Transits { port: e.names }, e.object, e.kind))
 }

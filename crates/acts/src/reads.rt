@@ -18,7 +18,7 @@ pub fn hold(store: Store<'_>, a: u32, o: u32, b: u32) -> Result<u32, Refusal>
         return Err(Refusal::NoSuchPort);
     }
     let o = Object::try_from(o)?;
-    if store.object_byte(o) == 0 {
+    if store.home(o).is_none() {
         return Err(Refusal::NotInUse);
     }
     Ok(store.holding_of(Held { port: a as usize }, o) as u32)

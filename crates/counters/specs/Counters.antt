@@ -22,7 +22,7 @@ pub record TransitIn (n o : ℕ) (r : List ℕ) : Type 0 where
   pub range : transit_at o r ≤ transit_top n
 
 -- a transit: the number of ports, and its signed count
-pub record Count : Type 0 where
+pub record HeardTransit : Type 0 where
   pub ports : ℕ
   pub count : ℤ
 
@@ -50,9 +50,9 @@ module _ (n : ℕ) where
   in_range z = le_z (counted 0) z && le_z z (counted (transit_top n))
 
   -- the transit of count z, or none where z is out of range
-  abbrev pub within : ℤ → Option Count
+  abbrev pub within : ℤ → Option HeardTransit
   within z = cond (in_range z) (Some (record { ports = n; count = z })) None
 
 -- the transit after an event, by Table 3
-abbrev pub transit_step : Kind → Count → Option Count
+abbrev pub transit_step : Kind → HeardTransit → Option HeardTransit
 transit_step k t = within t.ports (in_transit_after k t.count)

@@ -109,9 +109,9 @@ pub struct Transit(pub i16, pub Ports);
 // A clause sees the number of ports and the count.
 impl Model for Transit {
     ghost use Rattle.std.specs.Prelude.{◌≡◌, true};
-    ghost use Rattle.counters.specs.Counters.{Count, in_range};
+    ghost use Rattle.counters.specs.Counters.{HeardTransit, in_range};
 
-    ghost Value = { Count };
+    ghost Value = { HeardTransit };
 
     ghost view = { λ t. record { ports = t.1; count = t.0 } };
 
@@ -125,14 +125,16 @@ impl Transit {
     pub fn raised(self) -> Option<Transit>
         ensures { result ≡ transit_step send self }
     {
-        self.1.within(self.0 + 1)
+        let Transit(z, ports) = self;
+        ports.within(z + 1)
     }
 
     // One less, or none where that is out of range.
     pub fn lowered(self) -> Option<Transit>
         ensures { result ≡ transit_step receive self }
     {
-        self.1.within(self.0 - 1)
+        let Transit(z, ports) = self;
+        ports.within(z - 1)
     }
 
     // After an event that is heard.
@@ -150,10 +152,11 @@ impl Transit {
     fn stored(self) -> u16
         ensures { result ≡ stored_as self.ports self.count }
     {
-        (self.0 + self.1.zero()) as u16
+        let Transit(z, ports) = self;
+        (z + ports.zero()) as u16
     }
 
-    // o's transit in a port's row, read and written.
+    // o's transit in a port's row.
     pub fn read(row: &[u8], o: usize, n: usize) -> Transit
         requires { TransitIn n o row.now }
         ensures { result ≡ record { ports = n; count = counted n (transit_at o row.now) } }
@@ -162,6 +165,7 @@ impl Transit {
         Transit(ports.counted(transit_at(row, o)), ports)
     }
 
+    // It becomes o's transit in a port's row.
     #[tactic(auto, unfolding(books::specs::Books::set_transit))]
     pub fn write(self, row: &mut [u8], o: usize)
         requires { 2 * o + 1 < length row.old }
@@ -205,7 +209,7 @@ pub fn transit_effect(e: Event, row: &mut [u8], o: usize, n: usize)
     }
 }
 
-// o's holding in a port's row.
+// o's holding in a port's row; here and below apart from the transit, as each effect takes its own.
 pub fn holding_at(row: &[u8], o: usize) -> u8
     requires { o < length row.now }
     ensures { result ≡ get_or row.now o 0 }

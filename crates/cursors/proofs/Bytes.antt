@@ -1,7 +1,7 @@
 -- Laws of a lane's bytes as the code reads and writes them: an entry added, the oldest taken, the entries that are o counted, all tested.
 -- Assumes nothing.
 use mathlib.Core.Path.{◌≡◌, refl, sym, ap, ◌∙◌}
-use mathlib.Core.Bool.{Bool, cond, not, ◌&&◌}
+use mathlib.Core.Bool.{cond, not}
 use mathlib.Core.List.{List, [], ◌∷◌, ◌++◌, append-nil}
 use Prim.Native.Nat.{ℕ, zero, suc, ◌+◌, ◌-◌, ◌*◌, ◌%◌, ◌<◌, ◌≤◌}
 use native.Mathlib.Numerals.{add-one}
@@ -10,13 +10,13 @@ use lib.Dec.{eqb}
 use lib.ListN.{length, get_or, set, take, drop, replicate, length-drop, drop_of_length-le}
 use lib.Seq.{sets, length-paste, get_or-drop, get_or-take}
 use borrow.Rule.Slice.PartMut.{put_mid}
-use Rattle.std.specs.List.{copy_within, count_by, list_all, range_with_len}
+use Rattle.std.specs.List.{copy_within, count_by}
 use Rattle.std.proofs.lemmas.List.Sums.{sum_by_more}
 use Rattle.std.proofs.lemmas.List.Edits.{paste_all}
 use Rattle.books.specs.Numbers.{every, sum_to}
 use Rattle.books.specs.Books.{object_limit}
 use Rattle.books.proofs.Parts.{put_seam, sets-put}
-use Rattle.books.proofs.Numbers.{every_front, every_ext}
+use Rattle.books.proofs.Numbers.{every_ext}
 use Rattle.lanes.specs.Lane.{pointer_width, count, entry, added, taken}
 use Rattle.cursors.specs.Cursor.{unnamed}
 
@@ -56,17 +56,6 @@ counted o (suc n) l h =
     ∙ sum_by_more (λ x. cond (eqb x o) 1 0) (drop 1 l) n 0 (rw length-drop (omega arith))
     ∙ rw (counted o n l (omega arith), byte)
 
--- a test of the numbers from a on, as a list and one by one
-every_range : (p : ℕ → Bool) (a n : ℕ) → list_all p (range_with_len a n) ≡ every n (λ i. p (a + i))
-unfolding every
-every_range p a zero = refl
-every_range p a (suc n) =
-    ap (λ (b : Bool). p a && b) (every_range p (a + 1) n ∙ every_ext _ _ n (λ i h. ap p (omega arith)))
-    ∙ ap (λ (k : ℕ). p k && every n (λ i. p (a + suc i))) (omega arith)
-    ∙ sym (every_front (λ i. p (a + i)) n)
-
 -- no entry is about o, by the first byte of each
-pub first_bytes : (w o : ℕ) (l : List ℕ) → 0 < w → list_all (λ i. not (eqb (get_or l (1 + w * i) 0 % object_limit) o)) (range_with_len 0 (count l)) ≡ unnamed w o l
-first_bytes w o l h =
-    every_range _ 0 (count l)
-    ∙ every_ext _ _ (count l) (λ i k. ap (λ (x : ℕ). not (eqb (x % object_limit) o)) (ap (λ (k : ℕ). get_or l k 0) (omega arith) ∙ sym (first_byte w i l h)))
+pub first_bytes : (w o : ℕ) (l : List ℕ) → 0 < w → every (count l) (λ i. not (eqb (get_or l (1 + w * i) 0 % object_limit) o)) ≡ unnamed w o l
+first_bytes w o l h = every_ext _ _ (count l) (λ i k. ap (λ (x : ℕ). not (eqb (x % object_limit) o)) (sym (first_byte w i l h)))

@@ -1,4 +1,5 @@
-// One lane of the lent store, lent as its own part of it. Its entries are w bytes: one on a pointer lane, two on a report lane.
+// One lane of the lent store, lent as its own part of it. Its entries are w bytes: one on a pointer lane, two on a report lane. The width
+// stays a number: a const parameter would ask more of callers.
 #![tactic(auto)]
 
 ghost use Rattle.std.specs.Prelude.{◌≡◌, ◌+◌, ◌*◌, ◌≤◌, ◌<◌, length};
@@ -22,7 +23,7 @@ pub struct Front {
     pub cursor: Cursor,
 }
 
-// How many entries a lane has. The width w stays a number, as a const parameter would ask more of callers.
+// How many entries a lane has.
 pub fn count(lane: &[u8]) -> u8
     requires { 0 < length lane.now }
     ensures { result ≡ count lane.now }

@@ -1,8 +1,9 @@
 -- What the code that reads and writes the store by stretches asks of it. n is the number of ports.
 -- Assumes nothing.
-use Rattle.std.specs.Prelude.{◌≡◌, List, ℕ, ◌+◌, ◌*◌, ◌≤◌, ◌<◌, length}
+use Rattle.std.specs.Prelude.{◌≡◌, cond, List, Option, Some, None, ℕ, ◌+◌, ◌*◌, ◌≤◌, ◌<◌, length}
 use Rattle.lanes.specs.Lane.{pointer_places, report_places, pointer_width, report_width, count}
 use Rattle.store.specs.Layout.{Stretch, size, long, place, pointers, read}
+use Rattle.store.specs.Store.{in_use, home}
 
 -- a number of ports for which every place of the store is far from a word's limit
 abbrev pub Few : ℕ → Type 0
@@ -35,3 +36,7 @@ pub record Begins (n : ℕ) (c : Stretch) (r : ℕ) : Type 0 where
 -- no pointer lane to port p is longer than its places
 abbrev pub LanesLow : ℕ → ℕ → List ℕ → Type 0
 LanesLow n p s = (a : ℕ) → a < n → count (read n (pointers a p) s) ≤ pointer_places
+
+-- the home of object o, if o is in use
+abbrev pub home_of : ℕ → ℕ → List ℕ → Option ℕ
+home_of n o s = cond (in_use n o s) (Some (home n o s)) None

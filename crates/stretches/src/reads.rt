@@ -1,5 +1,5 @@
 // A lent store that is read.
-ghost use Rattle.std.specs.Prelude.{◌≡◌, true, ◌*◌, ◌≤◌, ◌<◌, length, get_or};
+ghost use Rattle.std.specs.Prelude.{◌≡◌, ◌*◌, ◌≤◌, ◌<◌, length, get_or};
 ghost use Rattle.books.specs.Books.{transit_top};
 ghost use Rattle.books.specs.Fits.{holding_fits, transit_fits};
 ghost use Rattle.counters.specs.Counters.{kind_of};
@@ -7,7 +7,7 @@ ghost use Rattle.lanes.specs.Lane.{pointer_places, count, pointers_to};
 ghost use Rattle.cursors.specs.Cursor.{front_of, unnamed};
 ghost use Rattle.store.specs.Layout.{pointers, read};
 ghost use Rattle.store.specs.Store.{object_byte, transit_of, on_way};
-ghost use Rattle.stretches.specs.Stretches.{Lent, LanesLow};
+ghost use Rattle.stretches.specs.Stretches.{Lent, LanesLow, home_of};
 
 use crate::stretch::{Holdings, Lane, Object, Objects, Pointers, Stretch, Transits};
 use counters::Event;
@@ -32,7 +32,7 @@ impl<'a> Store<'a> {
         &self.bytes[at..at + S::BYTES]
     }
 
-    // o's object byte.
+    // o's object byte: 0 if it is free, else its home plus 1, as the store has it.
     pub fn object_byte(self, o: Object) -> u8
         ensures { result ≡ object_byte self.entry.ports o.number self.entry.bytes.now }
     {
@@ -40,7 +40,14 @@ impl<'a> Store<'a> {
         bytes[o.number]
     }
 
-    // A port's true holding of o, or its heard holding.
+    // The home of o, if o is in use.
+    pub fn home(self, o: Object) -> Option<usize>
+        ensures { result ≡ home_of self.entry.ports o.number self.entry.bytes.now }
+    {
+        (self.object_byte(o) as usize).checked_sub(1)
+    }
+
+    // A port's true holding of o, or its heard holding. A transit is read apart from it, here and below: document 01 asks for two types.
     pub fn holding_of<H: Holdings>(self, c: H, o: Object) -> u8
         requires { H.Inside self.ports c }
         ensures { result ≡ get_or (read self.entry.ports (H.stretch c) self.entry.bytes.now) o.number 0 }
@@ -82,7 +89,7 @@ impl<'a> Store<'a> {
         cursors::count(self.part(c))
     }
 
-    // Is no entry of a lane about o?
+    // Is no entry of a lane about o? Any number may be asked for here and below, not only an object's: a type would ask more.
     pub fn unnamed<L: Lane>(self, c: L, o: usize) -> bool
         requires inside { L.Inside self.ports c }
         requires low { count (read self.ports (L.stretch c) self.bytes.now) ≤ L.PLACES }
@@ -111,7 +118,7 @@ impl<'a> Store<'a> {
         cursors::pointers_to(self.part(c), o)
     }
 
-    // The pointers to o on all lanes to port p.
+    // The pointers to o on all lanes to port p. Summed in a `for`: what the chain's closure needs of each port did not prove.
     pub fn on_way(self, p: usize, o: u8) -> usize
         requires inside { p < self.ports }
         requires low { LanesLow self.ports p self.bytes.now }

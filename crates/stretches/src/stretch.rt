@@ -6,7 +6,7 @@ ghost use Rattle.lanes.specs.Lane.{pointer_width, report_width, pointer_places, 
 ghost use Rattle.store.specs.Layout.{Stretch as Laid, objects, held, heard, transit, pointers, reports, long};
 ghost use Rattle.stretches.specs.Stretches.{Few, Begins, Numbered, LaneSized};
 
-const OBJECTS: usize = 64; // the bytes of a row of holdings
+pub const OBJECTS: usize = 64; // objects, and so the bytes of a row of holdings
 
 const TRANSITS: usize = 2 * OBJECTS; // the bytes of a row of transits
 
@@ -50,6 +50,7 @@ pub trait Stretch: Copy {
 
     const BYTES: usize;
 
+    // Where it begins in a store of so many ports.
     fn place(self, ports: usize) -> usize
         requires few { Few ports }
         requires inside { Inside ports self }
@@ -63,8 +64,10 @@ pub trait Holdings: Stretch {
     ghost each: { Self.BYTES ≡ object_limit };
 }
 
-// A lane: the bytes of its entries, and how many have room.
+// A lane: the one between two ports, the bytes of its entries, and how many have room.
 pub trait Lane: Stretch {
+    ghost between: { ℕ → ℕ → Self };
+
     ghost WIDTH: { ℕ };
 
     ghost PLACES: { ℕ };
@@ -73,7 +76,13 @@ pub trait Lane: Stretch {
 
     const PLACES: usize;
 
+    // The lane from a port to another.
+    fn between(from: usize, to: usize) -> Self
+        ensures { result ≡ between from to };
+
     ghost sized: { LaneSized Self.BYTES WIDTH PLACES };
+
+    ghost inside: { (n a b : ℕ) → a < n → b < n → Self.Inside n (between a b) };
 }
 
 // The object bytes.
@@ -202,6 +211,8 @@ impl Stretch for Pointers {
 }
 
 impl Lane for Pointers {
+    ghost between = { λ a b. record { from = a; to = b } };
+
     ghost WIDTH = { pointer_width };
 
     ghost PLACES = { pointer_places };
@@ -210,7 +221,13 @@ impl Lane for Pointers {
 
     const PLACES: usize = 16;
 
+    fn between(from: usize, to: usize) -> Self {
+        Pointers { from, to }
+    }
+
     ghost sized = { Prim.search rules };
+
+    ghost inside = { λ n a b h k. (h, k) };
 }
 
 // The report lane from a port to another.
@@ -238,6 +255,8 @@ impl Stretch for Reports {
 }
 
 impl Lane for Reports {
+    ghost between = { λ a b. record { from = a; to = b } };
+
     ghost WIDTH = { report_width };
 
     ghost PLACES = { report_places };
@@ -246,5 +265,11 @@ impl Lane for Reports {
 
     const PLACES: usize = 32;
 
+    fn between(from: usize, to: usize) -> Self {
+        Reports { from, to }
+    }
+
     ghost sized = { Prim.search rules };
+
+    ghost inside = { λ n a b h k. (h, k) };
 }

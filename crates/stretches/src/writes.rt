@@ -13,7 +13,9 @@ use crate::stretch::{Holdings, Lane, Object, Pointers, Reports, Stretch, Transit
 use counters::Event;
 use cursors::Cursor;
 
-// A store of so many ports, lent to be written.
+// A store of so many ports, lent to be written. Each writer borrows its stretch itself: a function that handed one out would have to show
+// `lent` of whatever its caller leaves.
+#[derive(Drop)]
 pub struct StoreMut<'a> {
     pub bytes: &'a mut [u8],
     pub ports: usize,
@@ -52,7 +54,7 @@ impl StoreMut<'_> {
         counters::holding_effect(e, &mut self.bytes[at..end], o.number);
     }
 
-    // The same to its heard transits as it is heard.
+    // The same to its heard transits as it is heard: apart from holdings, as document 01 asks for two types.
     pub fn change_transit(&mut self, c: Transits, o: Object, e: Event)
         requires inside { c.port < self.old.ports }
         requires range { transit_of self.old.ports c.port o.number self.old.bytes.now ≤ transit_top self.old.ports }
@@ -78,7 +80,7 @@ impl StoreMut<'_> {
         Cursor::of(lane).added(lane, entry);
     }
 
-    // Pointer o added to its lane.
+    // Pointer o added to its lane. It and a report are added apart: the type says how many bytes, of which a generic one had to ask.
     pub fn add_pointer(&mut self, c: Pointers, o: u8)
         requires inside { (c.from < self.old.ports) × (c.to < self.old.ports) }
         requires room { count (read self.old.ports (pointers c.from c.to) self.old.bytes.now) < pointer_places }
@@ -106,5 +108,22 @@ impl StoreMut<'_> {
         let end = at + L::BYTES;
         let lane = &mut self.bytes[at..end];
         Cursor::of(lane).taken(lane, L::WIDTH);
+    }
+}
+
+#[cfg(test)]
+mod tests {
+    use super::*;
+
+    // Who lends its bytes knows them when they are back: one object byte differs.
+    #[test]
+    fn lent_and_back(rt: HostRuntime) {
+        let mut bytes = [0; 402];
+        let mut store = StoreMut {
+            bytes: &mut bytes,
+            ports: 1,
+        };
+        store.set_object(Object { number: 5 }, 1);
+        assert_eq!(rt; bytes[5], 1);
     }
 }

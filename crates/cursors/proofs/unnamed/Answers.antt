@@ -1,13 +1,12 @@
 -- `cursors::unnamed`: the test of each entry's first byte is the test of each entry.
 -- Assumes nothing.
-use Rattle.std.proofs.Common.{rules, tests, ◌∙◌, refl, arith}
-use Rattle.std.proofs.lemmas.Iterator.{YieldsList-from_range}
-use Rattle.std.proofs.lemmas.Iterator.Search.{all_from_yields_List}
-use Rattle.lanes.specs.Lane.{count}
+use Rattle.std.proofs.Common.{rules, tests, ◌∙◌, not, eqb, get_or, ◌+◌, ◌*◌, ◌%◌}
+use Rattle.books.specs.Books.{object_limit}
+use Rattle.books.proofs.Ranges.{all_every}
 use Rattle.cursors.proofs.Bytes.{first_bytes}
 use Rattle.cursors.proofs.unnamed.Goals as goal
 
 pub returns : goal.returns
 returns c =
-    all_from_yields_List _ _ _ c.all.result c.all.ensures.ran (YieldsList-from_range 0 _ (count c.args.lane.now) refl (omega arith)) (λ x b q k. search (rules, tests))
-    ∙ first_bytes c.args.w c.args.o c.args.lane.now c.requires.0
+    let a = c.args in
+    all_every (λ i. not (eqb (get_or a.lane.now (1 + a.w * i) 0 % object_limit) a.o)) _ _ c.all.ensures.ran (λ x b q k. search (rules, tests)) ∙ first_bytes a.w a.o a.lane.now c.requires.0

@@ -11,4 +11,4 @@ pub returns : goal.returns
 returns c =
     let w = c.change_holding.ensures in
     let v = c.tells.ensures in
-    record { ports = v.ports ∙ w.ports; bytes = happens_is _ _ _ _ w.bytes _ (rw w.ports at v.bytes) }
+    record { loan = v.loan ∙ w.loan; ports = v.ports ∙ w.ports; bytes = happens_is _ _ _ _ w.bytes _ (rw w.ports at v.bytes) }

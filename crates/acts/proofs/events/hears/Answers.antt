@@ -11,4 +11,4 @@ pub returns : goal.returns
 returns c =
     let w = c.change_transit.ensures in
     let v = c.change_holding.ensures in
-    record { ports = v.ports ∙ w.ports; bytes = heard_is _ _ _ c.requires _ w.bytes _ (rw w.ports at v.bytes) }
+    record { loan = v.loan ∙ w.loan; ports = v.ports ∙ w.ports; bytes = heard_is _ _ _ c.requires _ w.bytes _ (rw w.ports at v.bytes) }

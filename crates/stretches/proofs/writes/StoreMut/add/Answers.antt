@@ -17,6 +17,7 @@ added-requires g c =
 pub returns : goal.returns
 returns g c =
     record {
+      loan = refl;
       ports = refl;
       bytes = back_is c.place-at.ensures c.args.self.now.bytes.now (g.met.L.Stretch.bytes _ _ ∙ sym c.BYTES.ensures) (added g.L.Lane.WIDTH c.args.entry.now) _
           (rw (← c.requires.wide) c.added.ensures.lane);

@@ -15,4 +15,8 @@ holding_effect-requires g c =
 
 pub returns : goal.returns
 returns g c =
-    record { ports = refl; bytes = back_is c.place-at.ensures c.args.self.now.bytes.now (g.met.H.Stretch.bytes _ _ ∙ sym c.BYTES.ensures) (holding_effect (kind_of c.args.e) c.args.o.number) _ c.holding_effect.ensures }
+    record {
+      loan = refl;
+      ports = refl;
+      bytes = back_is c.place-at.ensures c.args.self.now.bytes.now (g.met.H.Stretch.bytes _ _ ∙ sym c.BYTES.ensures) (holding_effect (kind_of c.args.e) c.args.o.number) _ c.holding_effect.ensures;
+    }

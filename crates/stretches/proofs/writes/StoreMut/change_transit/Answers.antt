@@ -15,4 +15,8 @@ transit_effect-requires c =
 
 pub returns : goal.returns
 returns c =
-    record { ports = refl; bytes = back_is c.place-at.ensures c.args.self.now.bytes.now refl (transit_effect (kind_of c.args.e) c.args.o.number) _ c.transit_effect.ensures }
+    record {
+      loan = refl;
+      ports = refl;
+      bytes = back_is c.place-at.ensures c.args.self.now.bytes.now refl (transit_effect (kind_of c.args.e) c.args.o.number) _ c.transit_effect.ensures;
+    }

@@ -6,4 +6,8 @@ use Rattle.stretches.proofs.writes.StoreMut.set_object.Goals as goal
 
 pub returns : goal.returns
 returns c =
-    let s = c.args.self.now in record { ports = refl; bytes = object-set s.ports s.bytes.now c.args.o.number c.args.b c.args.o.low s.lent.sized }
+    let s = c.args.self.now in record {
+      loan = refl;
+      ports = refl;
+      bytes = object-set s.ports s.bytes.now c.args.o.number c.args.b c.args.o.low s.lent.sized;
+    }

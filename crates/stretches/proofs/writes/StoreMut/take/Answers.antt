@@ -17,6 +17,7 @@ taken-requires g c =
 pub returns : goal.returns
 returns g c =
     record {
+      loan = refl;
       ports = refl;
       bytes = back_is c.place-at.ensures c.args.self.now.bytes.now (g.met.L.Stretch.bytes _ _ ∙ sym c.BYTES.ensures) (taken g.L.Lane.WIDTH) _
           (rw (← c.WIDTH.ensures) c.taken.ensures.lane);

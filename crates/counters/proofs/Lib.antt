@@ -1,2 +1,0 @@
-pub mod Transits
-pub mod Rows
