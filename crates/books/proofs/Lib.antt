@@ -3,3 +3,4 @@ pub mod Numbers
 pub mod Parts
 pub mod Effects
 pub mod Loops
+pub mod Ranges

@@ -1,25 +1,20 @@
--- What a lane's test is, by the ways that the code decides it, and where the lanes of a row stand.
+-- What a lane's test is, by the ways that the code decides it; and bytes that are all 0.
 -- Assumes nothing.
-use mathlib.Core.Path.{◌≡◌, refl, sym}
-use mathlib.Core.Bool.{Bool, true, false, not, ◌&&◌, ◌||◌, and-false}
+use mathlib.Core.Path.{◌≡◌, refl, sym, ap, ◌∙◌}
+use mathlib.Core.Bool.{Bool, true, false, not, ◌&&◌, ◌||◌, and-false, and-true, and_assoc}
 use mathlib.Core.List.{List, [], ◌∷◌}
 use Prim.Native.Nat.{ℕ, ◌+◌, ◌-◌, ◌*◌, ◌<◌, ◌≤◌}
 use lib.Dec.{eqb, leb-zero}
-use lib.ListN.{length, get_or, take, drop, length-drop}
+use lib.Bits.{bit_or}
+use lib.ListN.{length, take, drop, length-drop}
 use lib.Seq.{take_all}
 use borrow.Author.Tests.{le-leb, lt-leb, ne_eqb}
-use native.Mathlib.Nat.{mul-zero, mul-add, mul-le-mul_left}
+use native.Mathlib.Nat.{mul-zero}
 use native.Mathlib.Omega.{arith}
+use Rattle.std.specs.List.{fold}
 use Rattle.books.specs.Numbers.{every}
-use Rattle.books.proofs.Numbers.{every_front}
-use Rattle.books.proofs.Loops.{next_row, row_within}
+use Rattle.books.proofs.Loops.{eqb_or}
 use Rattle.lanes.specs.Lane.{count, entry, silent, lane_formed}
-
--- silent is a test of every byte
-pub silent-every : (l : List ℕ) → silent l ≡ every (length l) (λ i. eqb (get_or l i 0) 0)
-unfolding silent every
-silent-every [] = refl
-silent-every (x ∷ l) = rw (silent-every l) (sym (every_front (λ i. eqb (get_or (x ∷ l) i 0) 0) (length l)))
 
 -- the part of a lane from place a to its end
 pub tail : (l : List ℕ) (a : ℕ) → take (length l - a) (drop a l) ≡ drop a l
@@ -67,12 +62,8 @@ module _ (w places : ℕ) (own : Bool) (right : List ℕ → Bool) (l : List ℕ
 -- the ways together
 pub ruleset lane_ways = (lane_none, lane_long, lane_own, lane_wrong, lane_right)
 
--- rows of n lanes of m bytes: where the first and the next begin, and that each ends within the square
-pub first-row : (m n : ℕ) → m * (n * 0) ≡ 0
-first-row m n = rw (mul-zero n, mul-zero m)
-
-pub next_rows : (m n a : ℕ) → m * (n * (a + 1)) ≡ m * (n * a) + m * n
-next_rows m n a = rw (next_row n a) (mul-add m (n * a) n)
-
-pub rows-within : (m n a : ℕ) → a < n → m * (n * a) + m * n ≤ m * (n * n)
-rows-within m n a h = rw (mul-add m (n * a) n) at (mul-le-mul_left m (row_within n a n h))
+-- bits joined to those of a list are 0 exactly where they are, and the list is silent
+pub joined : (l : List ℕ) (a : ℕ) → eqb (fold bit_or a l) 0 ≡ (eqb a 0 && silent l)
+unfolding silent
+joined [] a = sym (and-true (eqb a 0))
+joined (x ∷ l) a = joined l (bit_or a x) ∙ ap (λ (b : Bool). b && silent l) (eqb_or a x) ∙ and_assoc (eqb a 0) (eqb x 0) (silent l)

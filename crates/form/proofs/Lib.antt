@@ -1,4 +1,2 @@
-pub mod Checked
 pub mod CheckedLanes
-pub mod CheckedWhole
 pub mod Started

@@ -1,15 +1,15 @@
 -- What START leaves.
 -- Assumes nothing.
 use mathlib.Core.Path.{◌≡◌, refl, sym, ap, ◌∙◌}
-use mathlib.Core.Bool.{Bool, true, false, cond}
-use mathlib.Core.List.{List, [], ◌∷◌, ◌++◌, append_assoc, append-nil}
+use mathlib.Core.Bool.{Bool, true, cond}
+use mathlib.Core.List.{List, [], ◌∷◌, ◌++◌, append_assoc}
 use Prim.Native.Nat.{ℕ, zero, suc, ◌+◌, ◌-◌, ◌*◌, ◌/◌, ◌%◌, ◌≤◌}
 use native.Mathlib.Omega.{arith}
 use native.Mathlib.Numerals.{add-one}
 use lib.Dec.{eqb}
-use lib.ListN.{length, set, drop, replicate, length-replicate, replicate-append-replicate, length-append, length-drop, drop_of_length-le}
+use lib.ListN.{length, set, drop, replicate, length-replicate, replicate-append-replicate, length-append, length-drop}
 use lib.Seq.{set_at, take_at, drop_at, append_snoc, drop-drop}
-use borrow.Author.Tests.{eq-eqb, ne_eqb}
+use borrow.Author.Tests.{eq-eqb}
 use borrow.Rule.Slice.PartMut.{put_mid}
 use Rattle.books.specs.Books.{object_limit, transit_zero}
 use Rattle.store.specs.Layout.{transit, pointers, extent, size, section_at, place}
@@ -35,26 +35,16 @@ two p (x ∷ y ∷ q) n a b h k =
     ∙ set_at (p ++ (a ∷ [])) y q b (n + 1) (length-append p (a ∷ []) ∙ ap (λ (m : ℕ). m + 1) h)
     ∙ append_snoc p a (b ∷ q)
 
--- the loop that writes words: before the first turn, one turn, and after the last
+-- one turn of the loop that writes words
 module _ (k : ℕ) (s : List ℕ) where
-  pub words_none : s ≡ words 0 k ++ drop (2 * 0) s
-  unfolding words
-  words_none = refl
-
-  pub words_turn : (l : List ℕ) (i : ℕ) → l ≡ words i k ++ drop (2 * i) s → 2 * i + 2 ≤ length s
-      → set (set l (2 * i) (k % 256)) (2 * i + 1) (k / 256) ≡ words (i + 1) k ++ drop (2 * (i + 1)) s
-  words_turn l i e h =
-      ap (λ (r : List ℕ). set (set r (2 * i) (k % 256)) (2 * i + 1) (k / 256)) e
+  pub words_turn : (l : List ℕ) (i low high : ℕ) → low ≡ k % 256 → high ≡ k / 256 → l ≡ words i k ++ drop (2 * i) s → 2 * i + 2 ≤ length s
+      → set (set l (2 * i) low) (2 * i + 1) high ≡ words (i + 1) k ++ drop (2 * (i + 1)) s
+  words_turn l i low high p r e h =
+      rw (p, r)
+      (ap (λ (t : List ℕ). set (set t (2 * i) (k % 256)) (2 * i + 1) (k / 256)) e
       ∙ two (words i k) (drop (2 * i) s) (2 * i) (k % 256) (k / 256) (words_long i k) (rw length-drop (omega arith))
       ∙ words_more i k (drop 2 (drop (2 * i) s))
-      ∙ (let q : 2 * i + 2 ≡ 2 * suc i = omega arith in rw (drop-drop 2 (2 * i) s, add-one i, q))
-
-  pub words_full : (l : List ℕ) (m i : ℕ) → l ≡ words i k ++ drop (2 * i) s → i ≡ m → length s ≡ 2 * m → l ≡ words m k
-  words_full l m i e q h = e ∙ rw (q, drop_of_length-le s {i = 2 * m} (omega arith), append-nil)
-
--- the loop that writes zeros, after the last turn
-pub zeros_full : (s l : List ℕ) (i : ℕ) → l ≡ replicate i 0 ++ drop i s → i ≡ length s → l ≡ replicate (length s) 0
-zeros_full s l i e h = e ∙ rw (h, drop_of_length-le s {i = length s} (omega arith), append-nil)
+      ∙ (let q : 2 * i + 2 ≡ 2 * suc i = omega arith in rw (drop-drop 2 (2 * i) s, add-one i, q)))
 
 -- zeros with a part put in their middle
 middle : (a k r : ℕ) (ys : List ℕ) → put_mid a k (replicate {A = ℕ} (a + (k + r)) 0) ys ≡ replicate a 0 ++ (ys ++ replicate r 0)
@@ -95,10 +85,6 @@ module _ (n : ℕ) (s : List ℕ) where
   -- what START answers and leaves
   abbrev pub Started : Bool → List ℕ → Type 0
   Started r t = (r ≡ eqb (length s) (size n)) × (t ≡ cond (eqb (length s) (size n)) (fresh n) s)
-
-  -- a buffer of another size
-  pub start_wrong : (length s ≡ size n → ⊥) → Started false s
-  start_wrong h = let q = ne_eqb (length s) (size n) h in (sym q, rw q)
 
   -- a store: cleared, then its transits written
   pub start_done : (m ys : List ℕ) (a e : ℕ) → length s ≡ size n → m ≡ replicate (length s) 0 → ys ≡ words (object_limit * n) (transit_zero n)

@@ -1,26 +1,27 @@
-// The full check: is a store well formed? Everything but the public call is over the number of ports.
-ghost use Rattle.std.specs.Prelude.{◌≡◌, ◌<◌, ◌≤◌, length};
+// The full check: is a store well formed? Everything but the public call is over the number of ports. In `size_of`, `formed` and START it is
+// a number with a clause: callers have a number, and a type would be made in each call and taken apart in each body.
+ghost use Rattle.std.specs.Prelude.{◌≡◌, ◌<◌, ◌≤◌};
 ghost use Rattle.store.specs.Layout.{size};
 ghost use Rattle.store.specs.Store.{well_formed};
 
-use super::counts::{OBJECTS, holdings_formed, objects_formed, transits_formed};
+use super::counts::{holdings_formed, objects_formed, transits_formed};
 use super::entries::lanes_formed;
+use stretches::reads::Store;
+use stretches::stretch::{OBJECTS, Pointers, Reports, Stretch};
 
-const POINTER_PLACES: usize = 16; // the places of a pointer lane
-
-const REPORT_PLACES: usize = 32; // the places of a report lane
-
-const PORTS: usize = 8;
+// The ports of the lent store.
+pub(crate) const PORTS: usize = 8;
 
 // The bytes of a store of n ports.
 pub fn size_of(n: usize) -> usize
     requires { n ≤ 16 }
     ensures { result ≡ size n }
 {
-    OBJECTS + 4 * OBJECTS * n + (2 + POINTER_PLACES + 2 * REPORT_PLACES) * (n * n)
+    OBJECTS + 4 * OBJECTS * n + (Pointers::BYTES + Reports::BYTES) * (n * n)
 }
 
 // Is a store of n ports well formed? Object bytes and counts first, then the lanes.
+#[tactic(auto, unfolding(store::specs::Store::well_formed))]
 pub fn formed(s: &[u8], n: usize) -> bool
     requires { (0 < n) × (n ≤ 16) }
     ensures { result ≡ well_formed n s.now }
@@ -28,21 +29,12 @@ pub fn formed(s: &[u8], n: usize) -> bool
     if s.len() != size_of(n) {
         return false;
     }
-    if !objects_formed(&s[0..OBJECTS], n) {
-        return false;
-    }
-    if !holdings_formed(&s[0..OBJECTS], s, n) {
-        return false;
-    }
-    if !transits_formed(&s[0..OBJECTS], s, n) {
-        return false;
-    }
-    let at = OBJECTS + 4 * OBJECTS * n;
-    if !lanes_formed(1, POINTER_PLACES, n, &s[0..OBJECTS], s, at) {
-        return false;
-    }
-    let f = at + (1 + POINTER_PLACES) * (n * n);
-    lanes_formed(2, REPORT_PLACES, n, &s[0..OBJECTS], s, f)
+    let store = Store { bytes: s, ports: n };
+    objects_formed(store)
+        && holdings_formed(store)
+        && transits_formed(store)
+        && lanes_formed::<Pointers>(store)
+        && lanes_formed::<Reports>(store)
 }
 
 // Is the store well formed?

@@ -1,148 +1,115 @@
-// The full check's part on lanes, for both kinds: w is the bytes of an entry.
-ghost use Rattle.std.specs.Prelude.{◌≡◌, ◌+◌, ◌*◌, ◌<◌, ◌≤◌, eqb, length};
+// The full check's part on lanes, for both kinds.
+ghost use Rattle.std.specs.Prelude.{◌≡◌, ℕ, Bool, List, ◌+◌, ◌*◌, ◌<◌, ◌≤◌, length};
 ghost use Rattle.books.specs.Numbers.{every};
-ghost use Rattle.books.specs.Books.{object_limit};
-ghost use Rattle.lanes.specs.Lane.{entry, silent, lane_formed};
+ghost use Rattle.lanes.specs.Lane.{entry, silent};
+ghost use Rattle.store.specs.Layout.{objects, read};
 ghost use Rattle.store.specs.Store.{pointer_right, report_right};
-ghost use Rattle.form.specs.Check.{entry_right, row_formed, lanes_formed};
+ghost use Rattle.form.specs.Check.{lane_formed_at, row_formed, lanes_formed};
 
-use super::counts::OBJECTS;
+use stretches::reads::Store;
+use stretches::stretch::{Lane, OBJECTS, Objects, Pointers, Reports};
 
 // Is every byte 0?
 fn all_zero(l: &[u8]) -> bool
     ensures { result ≡ silent l.now }
 {
-    let mut bad: u8 = 0;
-    let mut i = 0;
-    while i < l.len() {
-        bad = bad | l[i];
-        i += 1;
-    }
-    bad == 0
+    l.iter().fold(0, |bits, b| bits | *b) == 0
 }
 
-// Does a pointer name an object in use?
-fn pointer_right(obj: &[u8], e: &[u8]) -> bool
-    requires { (length obj.now ≡ object_limit) × (0 < length e.now) }
-    ensures { result ≡ pointer_right obj.now e.now }
-{
-    let o = e[0] as usize;
-    if OBJECTS <= o {
-        return false;
-    }
-    obj[o] != 0
+// A kind of lane with the test of its entries: n is the number of ports, a and b the ports that the lane is between. They stay numbers
+// beside the store, here and below: a lane of a kind does not give its ports back, and an entry's rule speaks of them.
+pub trait Entries: Lane {
+    ghost right: { (n : ℕ) (obj : List ℕ) (a b : ℕ) → List ℕ → Bool };
+
+    // Is an entry on the lane from port a to port b right?
+    fn right(store: Store<'_>, a: usize, b: usize, e: &[u8]) -> bool
+        requires port { b < store.ports }
+        requires whole { length e.now ≡ Self.WIDTH }
+        ensures { result ≡ right store.entry.ports (read store.entry.ports objects store.entry.bytes.now) a b e.now };
 }
 
-// Is a report on the lane from a to b right?
-fn report_right(n: usize, obj: &[u8], a: usize, b: usize, e: &[u8]) -> bool
-    requires { (length obj.now ≡ object_limit) × (b < 16) × (1 < length e.now) }
-    ensures { result ≡ report_right n obj.now a b e.now }
-{
-    let x = e[0] as usize;
-    let q = e[1] as usize;
-    if obj[x % OBJECTS] as usize != b + 1 {
-        return false;
+// A pointer names an object in use.
+impl Entries for Pointers {
+    ghost right = { λ n obj a b. pointer_right obj };
+
+    fn right(store: Store<'_>, a: usize, b: usize, e: &[u8]) -> bool {
+        let obj = store.part(Objects);
+        let o = e[0] as usize;
+        o < OBJECTS && obj[o] != 0
     }
-    if x / OBJECTS != 0 {
-        return q == 0;
-    }
-    if n <= q {
-        return false;
-    }
-    q != a
 }
 
-// Is an entry right?
-fn entry_right(w: usize, n: usize, obj: &[u8], a: usize, b: usize, e: &[u8]) -> bool
-    requires { (length obj.now ≡ object_limit) × (b < 16) × (0 < w) × (length e.now ≡ w) }
-    ensures { result ≡ entry_right w n obj.now a b e.now }
-{
-    if w == 1 {
-        return pointer_right(obj, e);
+// A report goes to the object's home; of an s its port is a port and not the sender, of any other its port byte is 0.
+impl Entries for Reports {
+    ghost right = { report_right };
+
+    fn right(store: Store<'_>, a: usize, b: usize, e: &[u8]) -> bool {
+        let x = e[0] as usize;
+        let q = e[1] as usize;
+        if store.part(Objects)[x % OBJECTS] as usize != b + 1 {
+            return false;
+        }
+        // left at once, as here, a busy store's check takes a sixth less than by one expression
+        if x / OBJECTS != 0 {
+            return q == 0;
+        }
+        if store.ports <= q {
+            return false;
+        }
+        q != a
     }
-    report_right(n, obj, a, b, e)
+}
+
+// Is entry i of a lane right, the oldest being entry 0?
+fn entry_right<L: Entries>(store: Store<'_>, a: usize, b: usize, i: usize, lane: &[u8]) -> bool
+    requires port { b < store.ports }
+    requires long { length lane.now ≡ L.BYTES }
+    requires within { 1 + L.WIDTH * (i + 1) ≤ length lane.now }
+    ensures { result ≡ L.right store.entry.ports (read store.entry.ports objects store.entry.bytes.now) a b (entry L.WIDTH i lane.now) }
+{
+    let at = 1 + L::WIDTH * i;
+    L::right(store, a, b, &lane[at..at + L::WIDTH])
 }
 
 // Are the first k entries of a lane right?
-fn entries_right(w: usize, n: usize, obj: &[u8], a: usize, b: usize, k: usize, lane: &[u8]) -> bool
-    requires { (length obj.now ≡ object_limit) × (b < 16) × (0 < w) × (1 + w * k ≤ length lane.now) }
-    ensures { result ≡ every k (λ i. entry_right w n obj.now a b (entry w i lane.now)) }
+fn entries_right<L: Entries>(store: Store<'_>, a: usize, b: usize, k: usize, lane: &[u8]) -> bool
+    requires port { b < store.ports }
+    requires within { 1 + L.WIDTH * k ≤ length lane.now }
+    requires long { length lane.now ≡ L.BYTES }
+    ensures { result ≡ every k (λ i. L.right store.entry.ports (read store.entry.ports objects store.entry.bytes.now) a b (entry L.WIDTH i lane.now)) }
 {
-    let mut i = 0;
-    let mut at = 1;
-    while i < k {
-        let e = at + w;
-        if !entry_right(w, n, obj, a, b, &lane[at..e]) {
-            return false;
-        }
-        i += 1;
-        at = e;
-    }
-    true
+    (0..k).all(|i| entry_right::<L>(store, a, b, i, lane))
 }
 
-// One lane. An empty one, the usual case, is one test of its places.
+// The lane of a kind from port a to port b. An empty one, the usual case, is one test of its places.
 #[tactic(auto, using(crate::proofs::CheckedLanes::lane_ways))]
-fn lane_formed(
-    w: usize,
-    places: usize,
-    n: usize,
-    obj: &[u8],
-    a: usize,
-    b: usize,
-    lane: &[u8],
-) -> bool
-    requires { (length obj.now ≡ object_limit) × (b < 16) × (0 < w) × (length lane.now ≡ 1 + w * places) }
-    ensures { result ≡ lane_formed w places (eqb a b) (entry_right w n obj.now a b) lane.now }
+fn lane_formed<L: Entries>(store: Store<'_>, a: usize, b: usize) -> bool
+    requires from { a < store.ports }
+    requires to { b < store.ports }
+    ensures { result ≡ lane_formed_at L.WIDTH L.PLACES (λ a b. L.stretch (L.between a b)) L.right store.entry.ports store.entry.bytes.now a b }
 {
+    let lane = store.part(L::between(a, b));
     let k = lane[0] as usize;
     if k == 0 {
         return all_zero(&lane[1..]);
     }
-    if places < k {
-        return false;
-    }
-    if a == b {
-        return false;
-    }
-    if !entries_right(w, n, obj, a, b, k, lane) {
-        return false;
-    }
-    let e = 1 + w * k;
-    all_zero(&lane[e..])
+    k <= L::PLACES
+        && a != b
+        && entries_right::<L>(store, a, b, k, lane)
+        && all_zero(&lane[1 + L::WIDTH * k..])
 }
 
-// The lanes from port a, of so many bytes each, the first at place at.
-fn row_formed(w: usize, places: usize, n: usize, obj: &[u8], a: usize, s: &[u8], at: usize) -> bool
-    requires { (length obj.now ≡ object_limit) × (n ≤ 16) × (0 < w) × (at + (1 + w * places) * n ≤ length s.now) }
-    ensures { result ≡ row_formed w places n obj.now a at s.now }
+// The lanes of a kind from port a.
+fn row_formed<L: Entries>(store: Store<'_>, a: usize) -> bool
+    requires { a < store.ports }
+    ensures { result ≡ row_formed L.WIDTH L.PLACES (λ a b. L.stretch (L.between a b)) L.right store.entry.ports store.entry.bytes.now a }
 {
-    let mut b = 0;
-    let mut f = at;
-    while b < n {
-        let e = f + (1 + w * places);
-        if !lane_formed(w, places, n, obj, a, b, &s[f..e]) {
-            return false;
-        }
-        b += 1;
-        f = e;
-    }
-    true
+    (0..store.ports).all(|b| lane_formed::<L>(store, a, b))
 }
 
-// The lanes from every port, the first at place at.
-pub fn lanes_formed(w: usize, places: usize, n: usize, obj: &[u8], s: &[u8], at: usize) -> bool
-    requires { (length obj.now ≡ object_limit) × (n ≤ 16) × (0 < w) × (at + (1 + w * places) * (n * n) ≤ length s.now) }
-    ensures { result ≡ lanes_formed w places n obj.now at s.now }
+// All lanes of a kind.
+pub fn lanes_formed<L: Entries>(store: Store<'_>) -> bool
+    ensures { result ≡ lanes_formed L.WIDTH L.PLACES (λ a b. L.stretch (L.between a b)) L.right store.entry.ports store.entry.bytes.now }
 {
-    let mut a = 0;
-    let mut f = at;
-    while a < n {
-        if !row_formed(w, places, n, obj, a, s, f) {
-            return false;
-        }
-        a += 1;
-        f += (1 + w * places) * n;
-    }
-    true
+    (0..store.ports).all(|a| row_formed::<L>(store, a))
 }

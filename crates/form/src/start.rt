@@ -1,35 +1,22 @@
 // START: a buffer of the right size becomes the fresh store.
-ghost use Rattle.std.specs.Prelude.{◌≡◌, cond, ◌*◌, ◌<◌, ◌≤◌, eqb, length, replicate};
+ghost use Rattle.std.specs.Prelude.{◌≡◌, cond, ◌/◌, ◌%◌, ◌<◌, ◌≤◌, eqb, length};
 ghost use Rattle.store.specs.Layout.{size};
 ghost use Rattle.store.specs.Store.{words};
 ghost use Rattle.store.specs.Store.{fresh as fresh_store};
 
-use super::check::size_of;
-use super::counts::OBJECTS;
+use super::check::{PORTS, size_of};
+use stretches::stretch::{Pointers, Stretch, Transits};
 
-// Every byte becomes 0.
-fn clear(s: &mut [u8])
-    ensures { s.new ≡ replicate (length s.old) 0 }
+// The number k over and over, in two bytes each, low byte first.
+#[tactic(auto, unfolding(store::specs::Store::words))]
+fn write_words(s: &mut [u8], k: u16)
+    requires { length s.old % 2 ≡ 0 }
+    ensures { s.new ≡ words (length s.old / 2) k }
 {
-    let mut i = 0;
-    while i < s.len() {
-        s[i] = 0;
-        i += 1;
-    }
-}
-
-// The number k, m times over, in two bytes each, low byte first.
-fn write_words(s: &mut [u8], m: usize, k: u16)
-    requires { length s.old ≡ 2 * m }
-    ensures { s.new ≡ words m k }
-{
-    let low = (k % 256) as u8;
-    let high = (k / 256) as u8;
-    let mut i = 0;
-    while i < m {
+    let [low, high] = k.to_le_bytes();
+    for i in 0..s.len() / 2 {
         s[2 * i] = low;
         s[2 * i + 1] = high;
-        i += 1;
     }
 }
 
@@ -41,10 +28,10 @@ pub fn fresh_of(store: &mut [u8], n: usize) -> bool
     if store.len() != size_of(n) {
         return false;
     }
-    clear(store);
-    let a = OBJECTS + 2 * OBJECTS * n;
-    let e = a + 2 * OBJECTS * n;
-    write_words(&mut store[a..e], OBJECTS * n, (32 * (n - 1)) as u16);
+    store.fill(0);
+    let a = Transits { port: 0 }.place(n);
+    let e = Pointers { from: 0, to: 0 }.place(n);
+    write_words(&mut store[a..e], (32 * (n - 1)) as u16);
     true
 }
 
@@ -52,5 +39,5 @@ pub fn fresh_of(store: &mut [u8], n: usize) -> bool
 pub fn fresh(store: &mut [u8]) -> bool
     ensures { (result ≡ eqb (length store.old) (size 8)) × (store.new ≡ cond (eqb (length store.old) (size 8)) (fresh_store 8) store.old) }
 {
-    fresh_of(store, 8)
+    fresh_of(store, PORTS)
 }

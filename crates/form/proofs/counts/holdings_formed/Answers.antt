@@ -1,23 +1,10 @@
--- `counts::holdings_formed`: one port more, and the first that does not pass; its rows are what the code lends.
+-- `counts::holdings_formed`: every port is tested.
 -- Assumes nothing.
-use Rattle.std.proofs.Common.{arith, sym, ◌∙◌}
-use Rattle.books.proofs.Loops.{every_none, passed_more, every-false}
-use Rattle.form.proofs.Checked.{row_holdings}
+use Rattle.std.proofs.Common.{rules}
+use borrow.Author.Tests.{tests}
+use Rattle.form.specs.Check.{port_holdings}
+use Rattle.books.proofs.Ranges.{all_every}
 use Rattle.form.proofs.counts.holdings_formed.Goals as goal
 
-pub loop-p-init : goal.loop-p-init
-loop-p-init c = (omega arith, every_none _)
-
-pub returns-then-not-holdings_row : goal.returns-then-not-holdings_row
-returns-then-not-holdings_row c =
-    let a = c.args in
-    sym (every-false _ a.n c.loop-p.p (omega arith)
-    (sym (row_holdings a.n c.loop-p.p a.obj.now a.s.now _ c.holdings_row.ensures) ∙ c.if-not-holdings_row.true))
-
-pub loop-p-preserved : goal.loop-p-preserved
-loop-p-preserved c =
-    let a = c.args in (
-      omega arith,
-      passed_more _ c.loop-p.p c.loop-p.invariant.1
-          (sym (row_holdings a.n c.loop-p.p a.obj.now a.s.now _ c.holdings_row.ensures) ∙ c.if-not-holdings_row.false),
-    )
+pub returns : goal.returns
+returns c = all_every (port_holdings _ _) _ _ c.all.ensures.ran (λ x b q k. search (rules, tests))
