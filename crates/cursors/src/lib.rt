@@ -28,7 +28,7 @@ pub fn count(lane: &[u8]) -> u8
     requires { 0 < length lane.now }
     ensures { result ≡ count lane.now }
 {
-    lane[0]
+    lane[0] // the length byte
 }
 
 impl Cursor {

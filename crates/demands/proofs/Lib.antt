@@ -38,5 +38,6 @@ pub mod Never
 pub mod Exactly
 pub mod Asked
 pub mod Settled
+pub mod Started
 pub mod Writes
 pub mod Demands

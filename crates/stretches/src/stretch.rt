@@ -28,7 +28,7 @@ pub struct NoObject(pub u32);
 impl TryFrom<u32> for Object {
     type Error = NoObject;
 
-    ghost try_from_gives = { λ o r. MatchResult r (λ x. x.number ≡ o) (λ e. object_limit ≤ o) };
+    ghost try_from_gives = { λ o r. MatchResult r (λ x. x.number ≡ o) (λ e. (object_limit ≤ o) × (e.0 ≡ o)) };
 
     fn try_from(o: u32) -> Result<Object, NoObject> {
         if (o as usize) < OBJECTS {

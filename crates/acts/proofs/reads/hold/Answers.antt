@@ -9,7 +9,7 @@ pub returns-then-store-a : goal.returns-then-store-a
 returns-then-store-a c = hold_3 _ _ _ _ _ c.requires c.if-store-a.true
 
 pub returns-in_err-o : goal.returns-in_err-o
-returns-in_err-o c = unnumbered _ _ _ _ _ c.requires (omega arith) c.in_err-o.ensures _ c.from_residual.ensures.1
+returns-in_err-o c = unnumbered _ _ _ _ _ c.requires (omega arith) (c.in_err-o.ensures.0) _ c.from_residual.ensures.1
 
 pub returns-then-is_none : goal.returns-then-is_none
 returns-then-is_none c =
