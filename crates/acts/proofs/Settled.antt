@@ -18,6 +18,6 @@ module _ (n A o B : ℕ) (s : List ℕ) (ready : Ready n s) where
   unfolding rule
   known = refl
 
-  pub settle-taken : (v : ℕ) → v ≡ settling n s → gives 0 v s ≡ does n a s
+  pub settle_taken : (v : ℕ) → v ≡ settling n s → gives 0 v s ≡ does n a s
   unfolding after value_of
-  settle-taken v q = takes n a s ready.formed (known, tt) ready.formed v s q refl
+  settle_taken v q = takes n a s ready.formed (known, tt) ready.formed v s q refl

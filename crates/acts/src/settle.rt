@@ -47,6 +47,7 @@ pub fn settling(store: Store<'_>) -> u32
 }
 
 // SETTLE: the settling number. It names nothing, and a store that passed the full check refuses it nothing.
+#[tactic(auto, using(crate::proofs::Settled::settle_taken))]
 pub fn settle(store: Store<'_>, a: u32, o: u32, b: u32) -> Result<u32, Refusal>
     requires { Ready store.ports store.bytes.now }
     ensures { record { answer = numbers result; bytes = store.entry.bytes.now } ≡ does store.entry.ports (act SETTLE a o b) store.entry.bytes.now }
