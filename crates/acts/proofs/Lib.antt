@@ -2,5 +2,4 @@ pub mod Lent
 pub mod Heard
 pub mod Hold
 pub mod Homes
-pub mod Settled
 pub mod Telling
