@@ -3,6 +3,7 @@
 
 pub mod events;
 pub mod reads;
+pub mod settle;
 pub mod start;
 
 use stretches::stretch::NoObject;
