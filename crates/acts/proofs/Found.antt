@@ -44,8 +44,8 @@ abbrev pub stands : ℕ → ℕ → List ℕ → ℕ → ℕ → Bool
 stands n o s h = against n h (λ p. heard_of n p o s) (λ p. transit_of n p o s) (held_of n h o s)
 
 -- k is the port that the code finds, n if it finds none
-pub standing_is : (n o h : ℕ) (s : List ℕ) → h ≡ home n o s → (k : ℕ) → k ≤ n → ((i : ℕ) → i < k → stands n o s h i ≡ false) → (k < n → stands n o s h k ≡ true)
-    → standing n o s ≡ k
+pub standing_is : (n o h : ℕ) (s : List ℕ) → h ≡ home n o s → (k : ℕ) → k ≤ n → ((i : ℕ) → i < k → stands n o s h i ≡ false)
+    → (k < n → stands n o s h k ≡ true) → standing n o s ≡ k
 unfolding standing lowest_against
 standing_is n o h s e k m before at = rw (← e) (first_is (stands n o s h) n k m before at)
 
@@ -56,12 +56,18 @@ Free b = b ≡ 0
 abbrev pub Used : ℕ → Type 0
 Used b = ¬ (b ≡ 0)
 
+-- is object o free, r being the object bytes?
+abbrev is_free : List ℕ → ℕ → Bool
+is_free r o = not (not (eqb (get_or r o 0) 0))
+
 -- r is the object bytes, and k the place of the first free one, if there is one
 pub lowest_free_is : (n : ℕ) (s r : List ℕ) → r ≡ read n objects s → length r ≡ object_limit → (k : Option ℕ)
     → MatchOption k (AllWithin Used r 0 (length r)) (λ i. (i < length r) × HoldsAt Free r i × AllWithin Used r 0 i)
     → MatchOption k (lowest_free n s ≡ object_limit) (λ i. i ≡ lowest_free n s)
 unfolding lowest_free
 lowest_free_is n s r is long None f =
-    rw (← is) (first_is (λ o. not (not (eqb (get_or r o 0) 0))) object_limit object_limit (omega arith) (λ i h. rw (ne_eqb _ _ (f i 0 (omega arith) (omega (arith, long))))) (λ h. absurd (omega (arith, h))))
+    rw (← is)
+    (first_is (is_free r) object_limit object_limit (omega arith) (λ i h. rw (ne_eqb _ _ (f i 0 (omega arith) (omega (arith, long))))) (λ h. absurd (omega (arith, h))))
 lowest_free_is n s r is long (Some k) f =
-    rw (← is) (sym (first_is (λ o. not (not (eqb (get_or r o 0) 0))) object_limit k (omega (arith, f.0, long)) (λ i h. rw (ne_eqb _ _ (f.2 i 0 (omega arith) h))) (λ h. rw (f.1 0))))
+    rw (← is)
+    (sym (first_is (is_free r) object_limit k (omega (arith, f.0, long)) (λ i h. rw (ne_eqb _ _ (f.2 i 0 (omega arith) h))) (λ h. rw (f.1 0))))

@@ -1,7 +1,8 @@
 // What acts look for on the lent store: the lowest port standing against retiring, the lowest free object.
-ghost use Rattle.std.specs.Prelude.{◌≡◌, ◌≤◌, ◌<◌, MatchOption};
+ghost use Rattle.std.specs.Prelude.{◌≡◌, ◌<◌, MatchOption};
 ghost use Rattle.books.specs.Books.{object_limit, transit_zero, against};
 ghost use Rattle.store.specs.Store.{held_of, heard_of, transit_of};
+ghost use Rattle.stretches.specs.Stretches.{Few};
 ghost use Rattle.machine.specs.Effects.{lowest_free};
 ghost use Rattle.machine.specs.Machine.{standing};
 
@@ -11,7 +12,7 @@ use stretches::stretch::{Heard, Held, Object, Objects, Transits};
 // What a transit of 0 is stored as.
 fn transit_zero(ports: usize) -> u16
     requires some { 0 < ports }
-    requires few { ports ≤ 16 }
+    requires few { Few ports }
     ensures { result ≡ transit_zero ports }
 {
     (32 * (ports - 1)) as u16
