@@ -1,4 +1,5 @@
 pub mod Lent
+pub mod Found
 pub mod Heard
 pub mod Hold
 pub mod Homes

@@ -2,6 +2,7 @@
 #![tactic(auto)]
 
 pub mod events;
+pub mod finds;
 pub mod reads;
 pub mod settle;
 pub mod start;
