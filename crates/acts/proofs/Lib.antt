@@ -4,3 +4,4 @@ pub mod Heard
 pub mod Hold
 pub mod Homes
 pub mod Telling
+pub mod Asked

@@ -1,3 +1,4 @@
 pub mod Replies
 pub mod Ready
 pub mod Told
+pub mod Verdicts

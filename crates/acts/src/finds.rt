@@ -1,22 +1,14 @@
 // What acts look for on the lent store: the lowest port standing against retiring, the lowest free object.
 ghost use Rattle.std.specs.Prelude.{◌≡◌, ◌<◌, MatchOption};
-ghost use Rattle.books.specs.Books.{object_limit, transit_zero, against};
+ghost use Rattle.books.specs.Books.{object_limit, against};
 ghost use Rattle.store.specs.Store.{held_of, heard_of, transit_of};
 ghost use Rattle.stretches.specs.Stretches.{Few};
 ghost use Rattle.machine.specs.Effects.{lowest_free};
 ghost use Rattle.machine.specs.Machine.{standing};
 
+use counters::Ports;
 use stretches::reads::Store;
 use stretches::stretch::{Heard, Held, Object, Objects, Transits};
-
-// What a transit of 0 is stored as.
-fn transit_zero(ports: usize) -> u16
-    requires some { 0 < ports }
-    requires few { Few ports }
-    ensures { result ≡ transit_zero ports }
-{
-    (32 * (ports - 1)) as u16
-}
 
 // Does port p stand against retiring o? The home stands by its true holding, another port by its heard one, and any by its transit.
 #[tactic(auto, unfolding(books::specs::Books::against))]
@@ -29,7 +21,7 @@ fn against(store: Store<'_>, o: Object, home: usize, p: usize) -> bool
     } else {
         store.holding_of(Heard { port: p }, o)
     };
-    0 < holding || store.transit_of(Transits { port: p }, o) != transit_zero(store.ports)
+    0 < holding || store.transit_of(Transits { port: p }, o) != Ports(store.ports).zero() as u16
 }
 
 // The lowest port standing against retiring o. A free object's home is taken as 0, as the definition takes it.

@@ -1,6 +1,7 @@
 // The ten acts on the lent store.
 #![tactic(auto)]
 
+pub mod ask;
 pub mod events;
 pub mod finds;
 pub mod reads;

@@ -1,4 +1,4 @@
-// The acts that change nothing: ASK, SETTLE and HOLD.
+// HOLD, which changes nothing, like ASK and SETTLE beside it.
 ghost use Rattle.std.specs.Prelude.{◌≡◌};
 ghost use Rattle.machine.specs.Acts.{act, HOLD};
 ghost use Rattle.acts.specs.Replies.{numbers};

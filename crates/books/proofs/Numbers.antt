@@ -1,7 +1,7 @@
 -- Laws of what is said of all the numbers below n.
 -- Assumes nothing.
 use mathlib.Core.Path.{◌≡◌, refl, sym, subst, ap, ◌∙◌}
-use mathlib.Core.Bool.{Bool, true, false, cond, ◌&&◌, and_assoc}
+use mathlib.Core.Bool.{Bool, true, false, cond, ◌&&◌, ◌||◌, and_assoc, or_assoc}
 use mathlib.Core.Logic.{⊎_elim}
 use Prim.Native.Nat.{ℕ, zero, suc, ◌+◌, ◌*◌, ◌≤◌, ◌<◌}
 use native.Mathlib.Nat.{le_of_suc-le-suc, not-suc-le-zero, eq-or-lt_of_le, add_assoc, add-zero, add-suc, mul-zero, mul-suc}
@@ -10,7 +10,7 @@ use native.Mathlib.Decide.{ℕ_discrete}
 use native.Mathlib.Omega.{arith}
 use lib.Dec.{ltb}
 use borrow.Author.Tests.{ltb-true, ltb-false}
-use Rattle.books.specs.Numbers.{every, first, sum_to}
+use Rattle.books.specs.Numbers.{every, some, first, sum_to}
 use Rattle.books.proofs.Booleans.{both_true, left_true, right_true, bool_ext}
 
 module _ (p : ℕ → Bool) where
@@ -47,6 +47,22 @@ pub every_ext : (p q : ℕ → Bool) (n : ℕ) → ((i : ℕ) → i < n → p i 
 unfolding every
 every_ext p q zero f = refl
 every_ext p q (suc n) f = rw (every_ext p q n (λ i h. f i (omega arith)), f n (omega arith))
+
+-- a test of some number: the first apart from the rest
+pub some_front : (p : ℕ → Bool) (n : ℕ) → some (suc n) p ≡ (p 0 || some n (λ i. p (suc i)))
+unfolding some
+some_front p zero = one (p 0)
+  where
+    one : (b : Bool) → (false || b) ≡ (b || false)
+    one true = refl
+    one false = refl
+some_front p (suc n) = ap (λ (b : Bool). b || p (suc n)) (some_front p n) ∙ or_assoc (p 0) (some n (λ i. p (suc i))) (p (suc n))
+
+-- two tests that agree below n
+pub some_ext : (p q : ℕ → Bool) (n : ℕ) → ((i : ℕ) → i < n → p i ≡ q i) → some n p ≡ some n q
+unfolding some
+some_ext p q zero f = refl
+some_ext p q (suc n) f = rw (some_ext p q n (λ i h. f i (omega arith)), f n (omega arith))
 
 -- one number more
 pub sum_more : (f : ℕ → ℕ) (i : ℕ) → sum_to (i + 1) f ≡ sum_to i f + f i

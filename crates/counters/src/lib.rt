@@ -69,7 +69,7 @@ impl Model for Ports {
 
 impl Ports {
     // What a transit is stored plus.
-    fn zero(self) -> i16
+    pub fn zero(self) -> i16
         ensures { result ≡ pos (transit_zero self) }
     {
         (32 * (self.0 - 1)) as i16
