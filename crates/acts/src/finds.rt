@@ -2,7 +2,6 @@
 ghost use Rattle.std.specs.Prelude.{◌≡◌, ◌<◌, MatchOption};
 ghost use Rattle.books.specs.Books.{object_limit, against};
 ghost use Rattle.store.specs.Store.{held_of, heard_of, transit_of};
-ghost use Rattle.stretches.specs.Stretches.{Few};
 ghost use Rattle.machine.specs.Effects.{lowest_free};
 ghost use Rattle.machine.specs.Machine.{standing};
 
