@@ -1,7 +1,8 @@
--- Laws of a lane's bytes as the code reads and writes them: an entry added, the oldest taken, the entries that are o counted, all tested.
+-- Laws of a lane's bytes as the code reads and writes them: an entry added, the oldest taken, the entries that are o counted, all tested,
+-- one tested.
 -- Assumes nothing.
 use mathlib.Core.Path.{◌≡◌, refl, sym, ap, ◌∙◌}
-use mathlib.Core.Bool.{cond, not}
+use mathlib.Core.Bool.{Bool, true, false, cond, not}
 use mathlib.Core.List.{List, [], ◌∷◌, ◌++◌, append-nil}
 use Prim.Native.Nat.{ℕ, zero, suc, ◌+◌, ◌-◌, ◌*◌, ◌%◌, ◌<◌, ◌≤◌}
 use native.Mathlib.Numerals.{add-one}
@@ -9,9 +10,10 @@ use native.Mathlib.Omega.{arith}
 use lib.Dec.{eqb}
 use lib.ListN.{length, get_or, set, take, drop, replicate, length-drop, drop_of_length-le}
 use lib.Seq.{sets, length-paste, get_or-drop, get_or-take}
+use borrow.Author.Tests.{eq-eqb, ne_eqb}
 use borrow.Rule.Slice.PartMut.{put_mid}
-use Rattle.std.specs.List.{copy_within, count_by}
-use Rattle.std.proofs.lemmas.List.Sums.{sum_by_more}
+use Rattle.std.specs.List.{copy_within, count_by, sum_by}
+use Rattle.std.proofs.lemmas.List.Sums.{sum_by_more, count_by-le-length}
 use Rattle.std.proofs.lemmas.List.Edits.{paste_all}
 use Rattle.books.specs.Numbers.{every, sum_to}
 use Rattle.books.specs.Books.{object_limit}
@@ -42,9 +44,14 @@ taken_written w k n (x ∷ l) m z h p q r v =
     ∙ ap (λ (y : List ℕ). set y 0 n) (put_seam (length (x ∷ l) - w) k z (x ∷ t) (drop (1 + s) (x ∷ l)) (omega arith))
     ∙ rw (none, append-nil, r, v)
 
+module _ (w : ℕ) (l : List ℕ) where
+  -- byte j of entry i
+  pub entry_byte : (i j : ℕ) → j < w → get_or (entry w i l) j 0 ≡ get_or l (1 + w * i + j) 0
+  entry_byte i j h = get_or-take w (drop (1 + w * i) l) j 0 h ∙ get_or-drop (1 + w * i) l j 0
+
 -- the first byte of entry i
 first_byte : (w i : ℕ) (l : List ℕ) → 0 < w → get_or (entry w i l) 0 0 ≡ get_or l (1 + w * i) 0
-first_byte w i l h = get_or-take w (drop (1 + w * i) l) 0 0 h ∙ get_or-drop (1 + w * i) l 0 0 ∙ ap (λ (k : ℕ). get_or l k 0) (omega arith)
+first_byte w i l h = entry_byte w l i 0 h ∙ ap (λ (k : ℕ). get_or l k 0) (omega arith)
 
 -- the entries of a pointer lane that are o, counted byte by byte
 pub counted : (o n : ℕ) (l : List ℕ) → n < length l → count_by (λ x. eqb x o) (take n (drop 1 l)) ≡ sum_to n (λ i. cond (eqb (get_or (entry pointer_width i l) 0 0) o) 1 0)
@@ -56,6 +63,24 @@ counted o (suc n) l h =
     ∙ sum_by_more (λ x. cond (eqb x o) 1 0) (drop 1 l) n 0 (rw length-drop (omega arith))
     ∙ rw (counted o n l (omega arith), byte)
 
+-- of so many entries no more are o
+pub few : (o k : ℕ) (l : List ℕ) → length l ≤ k → sum_by (λ x. cond (eqb x o) 1 0) l ≤ k
+few o k l h = omega (arith, h, count_by-le-length (λ x. eqb x o) l)
+
 -- no entry is about o, by the first byte of each
 pub first_bytes : (w o : ℕ) (l : List ℕ) → 0 < w → every (count l) (λ i. not (eqb (get_or l (1 + w * i) 0 % object_limit) o)) ≡ unnamed w o l
 first_bytes w o l h = every_ext _ _ (count l) (λ i k. ap (λ (x : ℕ). not (eqb (x % object_limit) o)) (sym (first_byte w i l h)))
+
+-- entry i is not about o, by its first byte
+module _ (w o : ℕ) (l : List ℕ) where
+  abbrev pub other : ℕ → Bool
+  other i = not (eqb (get_or (entry w i l) 0 0 % object_limit) o)
+
+  first_at : (i at : ℕ) → 0 < w → at ≡ 1 + w * i → get_or (entry w i l) 0 0 ≡ get_or l at 0
+  first_at i at h e = first_byte w i l h ∙ ap (λ (k : ℕ). get_or l k 0) (omega arith)
+
+  pub is-o : (i at : ℕ) → 0 < w → at ≡ 1 + w * i → get_or l at 0 % object_limit ≡ o → other i ≡ false
+  is-o i at h e q = ap not (eq-eqb _ o (ap (λ (k : ℕ). k % object_limit) (first_at i at h e) ∙ q))
+
+  pub not-o : (i at : ℕ) → 0 < w → at ≡ 1 + w * i → (get_or l at 0 % object_limit ≡ o → ⊥) → other i ≡ true
+  not-o i at h e q = ap not (ne_eqb _ o (λ r. q (ap (λ (k : ℕ). k % object_limit) (sym (first_at i at h e)) ∙ r)))

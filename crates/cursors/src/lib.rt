@@ -94,7 +94,7 @@ pub fn pointers_to(lane: &[u8], o: u8) -> usize
     ensures most { result ≤ pointer_places }
 {
     let n = lane[0] as usize;
-    lane[1..1 + n].iter().filter(|x| **x == o).count()
+    lane[1..1 + n].iter().map(|x| usize::from(*x == o)).sum()
 }
 
 // Is no entry about o?
