@@ -67,7 +67,8 @@ impl StoreMut<'_> {
         counters::transit_effect(e, &mut self.bytes[at..end], o.number, n);
     }
 
-    // An entry added to a lane.
+    // An entry added to a lane. In its callers its bytes are as many as their type says, and are written one by one.
+    #[inline(always)]
     fn add<L: Lane>(&mut self, c: L, entry: &[u8])
         requires inside { L.Inside self.old.ports c }
         requires wide { length entry.now ≡ L.WIDTH }
