@@ -31,7 +31,7 @@ module _ (n A o B : ℕ) (s : List ℕ) (ready : Ready n s) where
   hold_3 h = refuses n a s ready.formed (2 ∷ []) (4 ∷ 5 ∷ []) 3 refl (known, tt) (port_high n a s refl h) (λ q. omega arith) (λ q. omega arith)
 
   module _ (port : A < n) where
-    hold_4 : object_limit ≤ o → gives 4 0 s ≡ does n a s
+    pub hold_4 : object_limit ≤ o → gives 4 0 s ≡ does n a s
     hold_4 h =
         refuses n a s ready.formed (2 ∷ 3 ∷ []) (5 ∷ []) 4 refl (known, (port-low n a s refl refl port, tt)) (object_high n a s h) (λ q. omega arith) (λ q. omega arith)
 

@@ -6,15 +6,22 @@ use mathlib.Core.List.{List, [], ◌∷◌}
 use Prim.Native.Nat.{ℕ, ◌+◌, ◌-◌, ◌*◌, ◌<◌, ◌≤◌}
 use lib.Dec.{eqb, leb-zero}
 use lib.Bits.{bit_or}
-use lib.ListN.{length, take, drop, length-drop}
+use lib.ListN.{length, get_or, take, drop, length-drop}
 use lib.Seq.{take_all}
 use borrow.Author.Tests.{le-leb, lt-leb, ne_eqb}
 use native.Mathlib.Nat.{mul-zero}
 use native.Mathlib.Omega.{arith}
 use Rattle.std.specs.List.{fold}
 use Rattle.books.specs.Numbers.{every}
+use Rattle.books.proofs.Numbers.{every_front}
 use Rattle.books.proofs.Loops.{eqb_or}
 use Rattle.lanes.specs.Lane.{count, entry, silent, lane_formed}
+
+-- silent is a test of every byte
+pub silent-every : (l : List ℕ) → silent l ≡ every (length l) (λ i. eqb (get_or l i 0) 0)
+unfolding silent every
+silent-every [] = refl
+silent-every (x ∷ l) = rw (silent-every l) (sym (every_front (λ i. eqb (get_or (x ∷ l) i 0) 0) (length l)))
 
 -- the part of a lane from place a to its end
 pub tail : (l : List ℕ) (a : ℕ) → take (length l - a) (drop a l) ≡ drop a l

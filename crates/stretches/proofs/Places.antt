@@ -30,10 +30,10 @@ module _ {n : ℕ} {c : Stretch} {r : ℕ} (h : Begins n c r) (s : List ℕ) whe
   bytes-long sized = part-long (place n c) (long n c) s (omega (arith, h.at, h.ends))
 
   -- the part from r to e, and the store once that part is back as ys
-  part-at : (e : ℕ) → e ≡ r + long n c → take (e - r) (drop r s) ≡ read n c s
+  pub part-at : (e : ℕ) → e ≡ r + long n c → take (e - r) (drop r s) ≡ read n c s
   part-at e k = rw h.at (read_is n c s e (k ∙ ap (λ (x : ℕ). x + long n c) h.at))
 
-  back-at : (e : ℕ) → e ≡ r + long n c → (f : List ℕ → List ℕ) (ys : List ℕ) → ys ≡ f (take (e - r) (drop r s)) → put_mid r (e - r) s ys ≡ edit n c f s
+  pub back-at : (e : ℕ) → e ≡ r + long n c → (f : List ℕ → List ℕ) (ys : List ℕ) → ys ≡ f (take (e - r) (drop r s)) → put_mid r (e - r) s ys ≡ edit n c f s
   back-at e k f ys p = rw h.at (edit_is n c s e (k ∙ ap (λ (x : ℕ). x + long n c) h.at) f ys (p ∙ ap (λ (x : ℕ). f (take (e - x) (drop x s))) h.at))
 
   -- the part that is lent, b bytes of it, and the store once it is back as ys

@@ -1,0 +1,2 @@
+pub mod Transits
+pub mod Rows
