@@ -1,5 +1,5 @@
--- Laws of the loops that test every number below n: before the first turn, one turn, a failure; of the greatest of two fault numbers,
--- which are 0 exactly where a test holds, and of bytes joined bit by bit.
+-- Laws of the loops that test every number below n: before the first turn, one turn, a failure; of the greatest of two numbers, and of
+-- bytes joined bit by bit.
 -- Assumes nothing.
 use mathlib.Core.Path.{◌≡◌, refl, subst, ap, ◌∙◌}
 use mathlib.Core.Bool.{Bool, true, false, ◌&&◌, and-false}

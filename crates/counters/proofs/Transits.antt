@@ -1,4 +1,5 @@
--- Laws of a transit as a signed count and as the number that is stored: the one of the other, and when either is in range.
+-- Laws of a transit as a signed count and as the number that is stored: the one of the other, and when either is in range; of the number
+-- before one.
 -- Assumes nothing.
 use mathlib.Core.Path.{◌≡◌, refl, sym, ap, ◌∙◌}
 use mathlib.Core.Bool.{true, false≢true}
@@ -70,6 +71,6 @@ module _ (n : ℕ) where
   pub stored_of : (k : ℕ) → stored_as n (counted n k) ≡ k
   stored_of k = ap nat_abs (sub_back (transit_zero n) k)
 
-  -- a count in range, plus what it is stored plus
+  -- a count in range and what a transit is stored plus make the number that is stored
   pub stored-pos : (z : ℤ) → Stored n z → z +ℤ pos (transit_zero n) ≡ pos (stored_as n z)
   stored-pos z s = ap (λ (y : ℤ). y +ℤ pos (transit_zero n)) s.is ∙ sub_back (transit_zero n) (stored_as n z)

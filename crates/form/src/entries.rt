@@ -16,8 +16,8 @@ fn all_zero(l: &[u8]) -> bool
     l.iter().fold(0, |bits, b| bits | *b) == 0
 }
 
-// The same of the places past a lane's entries. A function that is called, so that the walk over empty lanes, the usual case, stays
-// short: in it, a fresh store's check takes a fifth more.
+// The same of the places past a lane's entries. Never inlined: written out in the walk over lanes, it makes the check of a store whose
+// lanes are empty, the usual case, take a fifth longer.
 #[inline(never)]
 fn rest_zero(l: &[u8]) -> bool
     ensures { result ≡ silent l.now }

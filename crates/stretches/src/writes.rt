@@ -67,7 +67,7 @@ impl StoreMut<'_> {
         counters::transit_effect(e, &mut self.bytes[at..end], o.number, n);
     }
 
-    // An entry added to a lane. In its callers its bytes are as many as their type says, and are written one by one.
+    // An entry added to a lane. Always inlined: there the compiler knows how many bytes the entry has.
     #[inline(always)]
     fn add<L: Lane>(&mut self, c: L, entry: &[u8])
         requires inside { L.Inside self.old.ports c }
