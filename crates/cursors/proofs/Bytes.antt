@@ -6,43 +6,57 @@ use mathlib.Core.Bool.{Bool, true, false, cond, not}
 use mathlib.Core.List.{List, [], ◌∷◌, ◌++◌, append-nil}
 use Prim.Native.Nat.{ℕ, zero, suc, ◌+◌, ◌-◌, ◌*◌, ◌%◌, ◌<◌, ◌≤◌}
 use native.Mathlib.Numerals.{add-one}
+use native.Mathlib.Decide.{ℕ_discrete}
 use native.Mathlib.Omega.{arith}
 use lib.Dec.{eqb}
 use lib.ListN.{length, get_or, set, take, drop, replicate, length-drop, drop_of_length-le}
-use lib.Seq.{sets, length-paste, get_or-drop, get_or-take}
+use lib.Seq.{sets, length-take-le, take_all, get_or-drop, get_or-take}
 use borrow.Author.Tests.{eq-eqb, ne_eqb}
 use borrow.Rule.Slice.PartMut.{put_mid}
 use Rattle.std.specs.List.{copy_within, count_by, sum_by}
 use Rattle.std.proofs.lemmas.List.Sums.{sum_by_more, count_by-le-length}
+use Rattle.std.proofs.lemmas.List.{length-append, drop-drop}
 use Rattle.std.proofs.lemmas.List.Edits.{paste_all}
 use Rattle.books.specs.Numbers.{every, sum_to}
 use Rattle.books.specs.Books.{object_limit}
 use Rattle.books.proofs.Parts.{put_seam, sets-put}
 use Rattle.books.proofs.Numbers.{every_ext}
-use Rattle.lanes.specs.Lane.{pointer_width, count, entry, added, taken}
+use Rattle.lanes.specs.Lane.{pointer_width, report_width, count, entry, added, taken}
 use Rattle.cursors.specs.Cursor.{unnamed}
 
 -- an entry written after the newest, and the length one more: the entry is added
-pub added_written : (w n k : ℕ) (e m l : List ℕ) → length e ≡ w → k ≡ w → m ≡ e → n ≡ count l → 1 + w * n + w ≤ length l → set (put_mid (1 + w * n) k l m) 0 (n + 1) ≡ added w e l
+pub added_written : (w n : ℕ) (e m l : List ℕ) → m ≡ sets l (1 + w * n) e → n ≡ count l → set m 0 (n + 1) ≡ added w e l
 unfolding added
-added_written w n k e m l long q r h fit =
-    rw (q, r) (ap (λ (s : List ℕ). set s 0 (n + 1)) (sym (sets-put l (1 + w * n) e w long fit)) ∙ ap (λ (n : ℕ). set (sets l (1 + w * n) e) 0 (n + 1)) h)
+added_written w n e m l q h = rw (q, h)
+
+-- a place's zeros, one or two
+zeros : (w : ℕ) → pointer_width ≤ w → w ≤ report_width → take {A = ℕ} w (0 ∷ 0 ∷ []) ≡ replicate w 0
+zeros w p q = elim (ℕ_discrete w pointer_width) [ yes e ↦ rw e | no e ↦ (let t : w ≡ report_width = omega arith in rw t) ]
 
 -- the others moved up, zeros at the last place, and the length one less: the oldest entry is taken
-pub taken_written : (w k n : ℕ) (l m z : List ℕ) → w < length l → m ≡ copy_within l (1 + w) (length l) 1 → k ≡ length m - (length l - w) → z ≡ replicate w 0 → n ≡ count l - 1
-    → set (put_mid (length l - w) k m z) 0 n ≡ taken w l
+pub taken_written : (w n : ℕ) (l p m s : List ℕ) → pointer_width ≤ w → w ≤ report_width → w < length l → p ≡ take (length l - 1) (drop 1 l)
+    → m ≡ copy_within p w (length p) 0 → s ≡ sets (put_mid 1 (length l - 1) l m) (length l - w) (take {A = ℕ} w (0 ∷ 0 ∷ [])) → n ≡ count l - 1 → set s 0 n ≡ taken w l
 unfolding taken
-taken_written w k n [] m z h p q r v = absurd (omega arith)
-taken_written w k n (x ∷ l) m z h p q r v =
-    let t = drop (1 + w) (x ∷ l) in
-    let s = length (x ∷ l) - (1 + w) in
-    let d : length t ≡ s = length-drop (1 + w) (x ∷ l) in
-    let long : length m ≡ length (x ∷ l) = ap length p ∙ length-paste (x ∷ l) 1 t s (omega arith) (omega arith) in
-    let e : m ≡ (x ∷ t) ++ drop (1 + s) (x ∷ l) = p ∙ paste_all (x ∷ l) 1 t s (sym d) in
-    let none : drop k (drop (1 + s) (x ∷ l)) ≡ [] = drop_of_length-le (drop (1 + s) (x ∷ l)) {i = k} (rw length-drop (omega arith)) in
-    ap (λ (y : List ℕ). set (put_mid (length (x ∷ l) - w) k y z) 0 n) e
-    ∙ ap (λ (y : List ℕ). set y 0 n) (put_seam (length (x ∷ l) - w) k z (x ∷ t) (drop (1 + s) (x ∷ l)) (omega arith))
-    ∙ rw (none, append-nil, r, v)
+taken_written w n [] p m s a b h q r v c = absurd (omega arith)
+taken_written w n (x ∷ l) p m s a b h q r v c =
+    let size = length (x ∷ l) in
+    let e = take {A = ℕ} w (0 ∷ 0 ∷ []) in
+    let t = drop w l in
+    let rest = drop (length l - w) l in
+    let whole : p ≡ l = q ∙ take_all (size - 1) l (omega arith) in
+    let d : length t ≡ length l - w = length-drop w l in
+    let f : length rest ≡ w = length-drop (length l - w) l ∙ omega arith in
+    let moved : m ≡ t ++ rest =
+    r ∙ ap (λ (y : List ℕ). copy_within y w (length y) 0) whole ∙ paste_all l 0 t (length l - w) (sym d)
+    ∙ ap (λ (i : ℕ). t ++ drop i l) (omega arith) in
+    let none : drop (size - 1) l ≡ [] = drop_of_length-le l {i = size - 1} (omega arith) in
+    let lane : put_mid 1 (size - 1) (x ∷ l) m ≡ (x ∷ t) ++ rest = put_seam 1 (size - 1) m (x ∷ []) l refl ∙ rw (none, append-nil, moved) in
+    let over : drop w rest ≡ [] = drop_of_length-le rest {i = w} (omega arith) in
+    ap (λ (y : List ℕ). set y 0 n)
+    (v ∙ ap (λ (y : List ℕ). sets y (size - w) e) lane
+    ∙ sets-put ((x ∷ t) ++ rest) (size - w) e w (length-take-le w (0 ∷ 0 ∷ []) b) (rw length-append (omega arith))
+    ∙ put_seam (size - w) w e (x ∷ t) rest (omega arith))
+    ∙ rw (over, append-nil, zeros w a b, c, ← drop-drop w 1 (x ∷ l))
 
 module _ (w : ℕ) (l : List ℕ) where
   -- byte j of entry i

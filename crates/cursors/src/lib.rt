@@ -3,7 +3,8 @@
 #![tactic(auto)]
 
 ghost use Rattle.std.specs.Prelude.{◌≡◌, ◌+◌, ◌*◌, ◌≤◌, ◌<◌, length};
-ghost use Rattle.lanes.specs.Lane.{pointer_places, pointer_width, count, added, taken, pointers_to};
+ghost use Rattle.std.proofs.lemmas.List.Edits.{sets};
+ghost use Rattle.lanes.specs.Lane.{pointer_places, pointer_width, report_width, count, added, taken, pointers_to};
 ghost use Rattle.cursors.specs.Cursor.{cursor_of, front_of, unnamed, Entered, Roomy};
 
 const OBJECTS: usize = 64; // an object's number is a report's first byte modulo this
@@ -64,8 +65,8 @@ impl Cursor {
     {
         let left = self.len - 1;
         let end = lane.len() - w;
-        lane.copy_within(1 + w.., 1);
-        lane[end..].fill(0);
+        lane[1..].copy_within(w.., 0);
+        put(lane, end, &[0, 0][..w]);
         lane[0] = left as u8;
         Cursor { len: left }
     }
@@ -80,9 +81,20 @@ impl Cursor {
         let w = entry.len();
         let n = self.len;
         let at = 1 + w * n;
-        lane[at..at + w].copy_from_slice(entry);
+        put(lane, at, entry);
         lane[0] = (n + 1) as u8;
         Cursor { len: n + 1 }
+    }
+}
+
+// An entry's bytes, one or two, are written at a place: each by itself, since a copy of a length that the compiler does not know is a call.
+fn put(lane: &mut [u8], at: usize, entry: &[u8])
+    requires { (pointer_width ≤ length entry.now) × (length entry.now ≤ report_width) × (at + length entry.now ≤ length lane.old) }
+    ensures { lane.new ≡ sets lane.old at entry.now }
+{
+    lane[at] = entry[0];
+    if let Some(second) = entry.get(1) {
+        lane[at + 1] = *second;
     }
 }
 
@@ -103,5 +115,6 @@ pub fn unnamed(lane: &[u8], w: usize, o: usize) -> bool
     ensures { result ≡ unnamed w o lane.now }
 {
     let n = lane[0] as usize;
-    (0..n).all(|i| lane[1 + w * i] as usize % OBJECTS != o)
+    // most lanes are empty: these are answered before the walk is set up
+    n == 0 || (0..n).all(|i| lane[1 + w * i] as usize % OBJECTS != o)
 }
