@@ -65,6 +65,7 @@ impl Cursor {
     {
         let left = self.len - 1;
         let end = lane.len() - w;
+        // within the entries, where the compiler sees that none moves back: over the whole lane it keeps a call for those that do
         lane[1..].copy_within(w.., 0);
         put(lane, end, &[0, 0][..w]);
         lane[0] = left as u8;
@@ -87,7 +88,8 @@ impl Cursor {
     }
 }
 
-// An entry's bytes, one or two, are written at a place: each by itself, since a copy of a length that the compiler does not know is a call.
+// An entry's bytes, one or two, are written at a place: one by one, since `copy_from_slice` and `fill` of a number of bytes that the compiler
+// does not know are calls of the C library.
 fn put(lane: &mut [u8], at: usize, entry: &[u8])
     requires { (pointer_width ≤ length entry.now) × (length entry.now ≤ report_width) × (at + length entry.now ≤ length lane.old) }
     ensures { lane.new ≡ sets lane.old at entry.now }
@@ -115,6 +117,6 @@ pub fn unnamed(lane: &[u8], w: usize, o: usize) -> bool
     ensures { result ≡ unnamed w o lane.now }
 {
     let n = lane[0] as usize;
-    // most lanes are empty: these are answered before the walk is set up
+    // an empty lane is answered before the walk is set up
     n == 0 || (0..n).all(|i| lane[1 + w * i] as usize % OBJECTS != o)
 }
